@@ -1,0 +1,55 @@
+-- The source of a set: what a list of changes must be, and when one more change is refused.
+use Rattle.std.specs.Prelude.{◌≡◌, ◌≢◌, ◌==◌, ℕ, ◌<◌, List, [], ◌∷◌, Option, Some, None, length, reverse, find, filter, replicate, if◌then◌else◌, nat_le, not, slice_index_or, ◌<ℤ◌, int_lt}
+use Rattle.std.specs.Ordering.{int_eq}
+use Rattle.set_model.specs.declared.source.Change.{Change}
+use Rattle.set_model.specs.declared.source.SourceFault.{SourceFault}
+use Rattle.set_model.specs.declared.source.SourceFault.TheVariants.{Full, TimeNotRising, SameValue}
+use Rattle.set_model.specs.declared.source.TheConstants.{MOST_CHANGES}
+
+-- the changes of one item, in their order
+abbrev pub of_item : ℕ → List Change → List Change
+of_item item changes = filter (λ c. c.item == item) changes
+
+-- d may follow c as the item's next change: it is later, and its value is another one
+pub record Follows (c d : Change) : Type 0 where
+  pub later : c.time <ℤ d.time
+  pub differs : c.value ≢ d.value
+
+abbrev pub RisesAfter : Change → List Change → Type 0
+RisesAfter c [] = Unit {0}
+RisesAfter c (d ∷ ds) = Follows c d × RisesAfter d ds
+
+-- each change follows the one before it
+abbrev pub Rises : List Change → Type 0
+Rises [] = Unit {0}
+Rises (c ∷ cs) = RisesAfter c cs
+
+-- of each item, each change follows the one before it
+pub record IsSource (changes : List Change) : Type 0 where
+  pub rises : (item : ℕ) → Rises (of_item item changes)
+
+-- the item's last change, if it has one
+abbrev pub last_of : ℕ → List Change → Option Change
+last_of item changes = find (λ c. c.item == item) (reverse changes)
+
+-- why a change is refused after the item's last one
+abbrev pub refusal_after : Option Change → Change → Option SourceFault
+refusal_after None change = None
+refusal_after (Some last) change =
+    if not (int_lt last.time change.time) then Some (TimeNotRising last.time)
+    else if int_eq change.value last.value then Some SameValue
+    else None
+
+-- why a change is refused after these changes, if it is
+abbrev pub refusal : List Change → Change → Option SourceFault
+refusal changes change =
+    if nat_le MOST_CHANGES (length changes) then Some Full
+    else refusal_after (last_of change.item changes) change
+
+-- the table of last changes before any came
+abbrev pub no_change : List (Option Change)
+no_change = replicate 256 None
+
+-- the table has, at each item's number, the item's last change
+pub record AreLasts (lasts : List (Option Change)) (changes : List Change) : Type 0 where
+  pub each : (item : ℕ) → item < 256 → slice_index_or lasts item None ≡ last_of item changes

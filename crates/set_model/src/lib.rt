@@ -1,0 +1,8 @@
+//! The data that servers and client speak of: changes of a source, entries that arrive, and the lines of a log.
+#![tactic(auto)]
+
+mod line;
+mod source;
+
+pub use line::{Arrived, GapCause, LogLine, Seen, UaRaw, write_line};
+pub use source::{Change, MOST_CHANGES, SourceFault, SourceLog};
