@@ -1,4 +1,4 @@
-ghost use Rattle.std.specs.Prelude.{◌≡◌, ◌++◌, List, ℕ, OnOk, OnErr, Some};
+ghost use Rattle.std.specs.Prelude.{◌≡◌, ◌++◌, List, ℕ, OnOk, OnErr, IfOk, Some};
 ghost use Rattle.set_model.specs.Line.{line_text};
 
 use std::alloc::Global;
@@ -29,6 +29,14 @@ impl UaRaw {
         UaRaw { bytes }
     }
 
+    /// An equal value with bytes of its own.
+    pub fn copy(&self, alloc: Global) -> Result<UaRaw, OutOfMemory>
+        ensures { IfOk result (λ raw. raw ≡ self.now) }
+    {
+        let bytes = Vec::from_slice(alloc, self.as_bytes())?;
+        Ok(UaRaw { bytes })
+    }
+
     /// The bytes.
     pub fn as_bytes(&self) -> &[u8]
         ensures { result.now ≡ self.now }
@@ -44,6 +52,18 @@ pub enum Seen {
     Whole(i64),
     /// Everything else: the written bytes of the Variant (OPC 10000-6, 5.2.2.16).
     Raw(UaRaw),
+}
+
+impl Seen {
+    /// An equal value with bytes of its own.
+    pub fn copy(&self, alloc: Global) -> Result<Seen, OutOfMemory>
+        ensures { IfOk result (λ value. value ≡ self.now) }
+    {
+        match self {
+            Seen::Whole(number) => Ok(Seen::Whole(*number)),
+            Seen::Raw(raw) => Ok(Seen::Raw(raw.copy(alloc)?)),
+        }
+    }
 }
 
 /// One entry that reached the client (OPC 10000-4, 7.7, DataValue).

@@ -1,0 +1,4 @@
+pub mod Judge
+pub mod State
+pub mod Rows
+pub mod Log

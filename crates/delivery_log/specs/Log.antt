@@ -1,0 +1,87 @@
+-- What each call does to the log. Servers and items are numbered from 1.
+use Rattle.std.specs.Prelude.{ℕ, ◌≤◌, ◌-◌, length, ℤ, List, [], ◌∷◌, ◌++◌, Option, Some, None, replicate, slice_index_or, slice_set}
+use Rattle.set_model.specs.declared.line.Arrived.{Arrived}
+use Rattle.set_model.specs.declared.line.GapCause.TheVariants.{Late}
+use Rattle.set_model.specs.declared.line.LogLine.{LogLine}
+use Rattle.set_model.specs.declared.line.LogLine.TheVariants as line
+use Rattle.delivery_log.specs.declared.rule.Joint.{Joint}
+use Rattle.delivery_log.specs.declared.rule.Joint.TheVariants.{Open}
+use Rattle.delivery_log.specs.declared.rule.Verdict.{Verdict}
+use Rattle.delivery_log.specs.declared.rule.Verdict.TheVariants.{Nothing, Deliver, GapDeliver}
+use Rattle.delivery_log.specs.Judge.{has_overflow, joint_after, later, verdict_of}
+use Rattle.delivery_log.specs.State.{LogState}
+
+-- the joints of so many servers and items before anything came
+abbrev pub late_joints : ℕ → ℕ → List (List Joint)
+late_joints servers items = replicate servers (replicate items (Open Late))
+
+-- the log of a client of so many servers and items, before anything came
+abbrev pub new_log : ℕ → ℕ → LogState
+new_log servers items = record {
+  lasts = replicate items None;
+  joints = late_joints servers items;
+  lines = [];
+}
+
+-- the log is one of this server and item
+pub record Covers (server item : ℕ) (log : LogState) : Type 0 where
+  pub server_from : 1 ≤ server
+  pub server_to : server ≤ length log.joints
+  pub item_from : 1 ≤ item
+  pub item_to : item ≤ length log.lasts
+
+-- the time of an item's last data line
+abbrev pub last_at : ℕ → LogState → Option ℤ
+last_at item log = slice_index_or log.lasts (item - 1) None
+
+-- the joints of a server
+abbrev pub joints_at : ℕ → LogState → List Joint
+joints_at server log = slice_index_or log.joints (server - 1) []
+
+-- the joint of a server and item
+abbrev pub joint_at : ℕ → ℕ → LogState → Joint
+joint_at server item log = slice_index_or (joints_at server log) (item - 1) (Open Late)
+
+-- the log with another joint of a server and item
+abbrev pub with_joint : ℕ → ℕ → Joint → LogState → LogState
+with_joint server item joint log = record log {
+  joints = slice_set log.joints (server - 1) (slice_set (joints_at server log) (item - 1) joint);
+}
+
+-- the log with another time last delivered of an item
+abbrev pub with_last : ℕ → Option ℤ → LogState → LogState
+with_last item last log = record log { lasts = slice_set log.lasts (item - 1) last }
+
+-- the log with more lines
+abbrev pub with_lines : List LogLine → LogState → LogState
+with_lines lines log = record log { lines = log.lines ++ lines }
+
+-- the log with one line more
+abbrev pub noted : LogLine → LogState → LogState
+noted line log = with_lines (line ∷ []) log
+
+-- the data line of an entry that has this source time
+abbrev pub data_line : ℕ → ℤ → Arrived → LogLine
+data_line item time entry = line.Delivered item time entry.value entry.status
+
+-- the lines that an entry of this source time gains
+abbrev pub timed_lines : ℕ → ℤ → Arrived → Verdict → List LogLine
+timed_lines item time entry Nothing = []
+timed_lines item time entry Deliver = data_line item time entry ∷ []
+timed_lines item time entry (GapDeliver cause) = line.Gap item cause ∷ data_line item time entry ∷ []
+
+-- the lines that an entry gains: none where it has no source time
+abbrev pub lines_by : ℕ → Option ℤ → Arrived → Verdict → List LogLine
+lines_by item None entry verdict = []
+lines_by item (Some time) entry verdict = timed_lines item time entry verdict
+
+-- the lines of an entry, by the time of the item's last data line and the joint
+abbrev pub entry_lines : ℕ → Arrived → Option ℤ → Joint → List LogLine
+entry_lines item entry last joint = lines_by item entry.time entry (verdict_of last joint entry.time (has_overflow entry.status))
+
+-- the log after an entry of a server and item
+abbrev pub entered : ℕ → ℕ → Arrived → LogState → LogState
+entered server item entry log =
+    with_joint server item (joint_after entry.time (joint_at server item log))
+      (with_last item (later (last_at item log) entry.time)
+        (with_lines (entry_lines item entry (last_at item log) (joint_at server item log)) log))

@@ -1,0 +1,177 @@
+ghost use Rattle.std.specs.Prelude.{◌≡◌, ◌<◌, ◌++◌, [], ◌∷◌, length, replicate, slice_index_or, slice_set, OnOk, OnErr, IfOk};
+ghost use Rattle.set_model.specs.declared.line.GapCause.TheVariants.{Late};
+ghost use Rattle.delivery_log.specs.declared.rule.Joint.TheVariants.{Open};
+ghost use Rattle.delivery_log.specs.Log.{Covers, data_line, entered, joint_at, late_joints, lines_by, new_log, noted, with_joint};
+
+use std::alloc::Global;
+use std::marker::Model;
+
+use set_model::{Arrived, GapCause, LogLine};
+use ua_base::OutOfMemory;
+
+use crate::rule::{Joint, Verdict, has_overflow, judge, later};
+
+/// The joints of one server, one for each item.
+#[derive(Debug, Drop)]
+struct Joints {
+    joints: Vec<Joint>,
+}
+
+impl Model for Joints {
+    ghost use Rattle.std.specs.Prelude.{List};
+    ghost use Rattle.delivery_log.specs.declared.rule.Joint.{Joint};
+
+    ghost Value = { List Joint };
+
+    ghost view = { λ j. j.joints.items };
+}
+
+impl Joints {
+    fn new(alloc: Global, items: u8) -> Result<Joints, OutOfMemory>
+        ensures { IfOk result (λ j. j ≡ replicate items (Open Late)) }
+    {
+        let joints = vec![in alloc; Joint::Open(GapCause::Late); usize::from(items)]?;
+        Ok(Joints { joints })
+    }
+
+    fn at(&self, place: usize) -> Joint
+        ensures { result ≡ slice_index_or self.now place (Open Late) }
+    {
+        match self.joints.get(place) {
+            Some(joint) => *joint,
+            None => Joint::Open(GapCause::Late),
+        }
+    }
+
+    fn set(&mut self, place: usize, joint: Joint)
+        requires { place < length self.old }
+        ensures { self.new ≡ slice_set self.old place joint }
+    {
+        self.joints[place] = joint;
+    }
+}
+
+/// The client's log: its lines, and what the rule needs of what was delivered.
+#[derive(Debug, Drop)]
+pub struct Log {
+    lasts: Vec<Option<i64>>,
+    joints: Vec<Joints>,
+    lines: Vec<LogLine>,
+}
+
+/// The joints of all servers before anything came.
+fn late_joints(alloc: Global, servers: u8, items: u8) -> Result<Vec<Joints>, OutOfMemory>
+    ensures { IfOk result (λ joints. joints.items ≡ late_joints servers items) }
+{
+    let mut joints = Vec::new(alloc);
+    for _server in 0..servers {
+        joints.push(Joints::new(alloc, items)?)?;
+    }
+    Ok(joints)
+}
+
+/// The lines that an entry of this time gains by the verdict on it, after those that are there.
+fn push_lines(alloc: Global, lines: &mut Vec<LogLine>, item: u8, entry: &Arrived, verdict: Verdict) -> Result<(), OutOfMemory>
+    ensures ok { OnOk result (lines.new.items ≡ lines.old.items ++ lines_by item entry.now.time entry.now verdict) }
+    ensures err { OnErr result (lines.new.items ≡ lines.old.items) }
+{
+    let Some(time) = entry.time else {
+        return Ok(());
+    };
+    match verdict {
+        Verdict::Nothing => Ok(()),
+        Verdict::Deliver => push_data(alloc, lines, item, time, entry),
+        Verdict::GapDeliver(cause) => {
+            lines.reserve(2)?;
+            let data = data_line(alloc, item, time, entry)?;
+            lines.push(LogLine::Gap { item, cause })?;
+            lines.push(data)?;
+            Ok(())
+        }
+    }
+}
+
+fn data_line(alloc: Global, item: u8, time: i64, entry: &Arrived) -> Result<LogLine, OutOfMemory>
+    ensures { IfOk result (λ line. line ≡ data_line item time entry.now) }
+{
+    let value = entry.value.copy(alloc)?;
+    Ok(LogLine::Delivered { item, time, value, status: entry.status })
+}
+
+fn push_data(alloc: Global, lines: &mut Vec<LogLine>, item: u8, time: i64, entry: &Arrived) -> Result<(), OutOfMemory>
+    ensures ok { OnOk result (lines.new.items ≡ lines.old.items ++ data_line item time entry.now ∷ []) }
+    ensures err { OnErr result (lines.new.items ≡ lines.old.items) }
+{
+    lines.push(data_line(alloc, item, time, entry)?)?;
+    Ok(())
+}
+
+impl Model for Log {
+    ghost use Rattle.std.specs.Prelude.{length, List};
+    ghost use Rattle.delivery_log.specs.State.{LogState};
+    ghost use Rattle.delivery_log.specs.Rows.{HaveWidth};
+
+    ghost Value = { LogState };
+
+    ghost view = { λ l. record { lasts = l.lasts.items; joints = l.joints.items; lines = l.lines.items } };
+
+    ghost invariant = { λ l. HaveWidth (length l.lasts.items) l.joints.items };
+}
+
+impl Log {
+    /// The log of a client of so many servers and items, before anything came.
+    pub fn new(alloc: Global, servers: u8, items: u8) -> Result<Log, OutOfMemory>
+        ensures { IfOk result (λ log. log ≡ new_log servers items) }
+    {
+        let lasts = vec![in alloc; None; usize::from(items)]?;
+        let joints = late_joints(alloc, servers, items)?;
+        Ok(Log { lasts, joints, lines: Vec::new(alloc) })
+    }
+
+    /// The joint of a server and item, both numbered from 1.
+    pub fn joint(&self, server: u8, item: u8) -> Joint
+        requires { Covers server item self.now }
+        ensures { result ≡ joint_at server item self.now }
+    {
+        self.joints[usize::from(server - 1)].at(usize::from(item - 1))
+    }
+
+    /// Sets the joint of a server and item, both numbered from 1. It takes no memory.
+    pub fn set_joint(&mut self, server: u8, item: u8, joint: Joint)
+        requires { Covers server item self.old }
+        ensures { self.new ≡ with_joint server item joint self.old }
+    {
+        self.joints[usize::from(server - 1)].set(usize::from(item - 1), joint);
+    }
+
+    /// Enters an entry of a server and item, both numbered from 1, by the rule of `judge`.
+    pub fn enter(&mut self, alloc: Global, server: u8, item: u8, entry: &Arrived) -> Result<(), OutOfMemory>
+        requires { Covers server item self.old }
+        ensures ok { OnOk result (self.new ≡ entered server item entry.now self.old) }
+        ensures err { OnErr result (self.new ≡ self.old) }
+    {
+        let place = usize::from(item - 1);
+        let last = self.lasts[place];
+        let (verdict, joint) = judge(last, self.joint(server, item), entry.time, has_overflow(entry.status));
+        push_lines(alloc, &mut self.lines, item, entry, verdict)?;
+        self.lasts[place] = later(last, entry.time);
+        self.set_joint(server, item, joint);
+        Ok(())
+    }
+
+    /// Appends a line that tells of no entry, such as `switch` or `ready`.
+    pub fn note(&mut self, line: LogLine) -> Result<(), OutOfMemory>
+        ensures ok { OnOk result (self.new ≡ noted line self.old) }
+        ensures err { OnErr result (self.new ≡ self.old) }
+    {
+        self.lines.push(line)?;
+        Ok(())
+    }
+
+    /// The lines so far.
+    pub fn lines(&self) -> &[LogLine]
+        ensures { result.now ≡ self.now.lines }
+    {
+        self.lines.as_slice()
+    }
+}
