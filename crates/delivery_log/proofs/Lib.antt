@@ -1,0 +1,5 @@
+pub mod Times
+pub mod Places
+pub mod Steps
+pub mod Former
+pub mod Law

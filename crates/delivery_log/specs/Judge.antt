@@ -1,7 +1,6 @@
 -- The rule of the log: what an entry gains, and the joint of its server and item afterwards.
 use Rattle.std.specs.Prelude.{◌==◌, ℕ, ℤ, Bool, true, false, Option, Some, None, if◌then◌else◌, not, int_lt, bit_and}
 use Rattle.ua_base.specs.declared.status.TheConstants.{OVERFLOW_BITS, OVERFLOW_MASK}
-use Rattle.set_model.specs.declared.line.GapCause.{GapCause}
 use Rattle.set_model.specs.declared.line.GapCause.TheVariants.{Warm, NoTime, Overflow}
 use Rattle.delivery_log.specs.declared.rule.Joint.{Joint}
 use Rattle.delivery_log.specs.declared.rule.Joint.TheVariants.{Joined, Open, Held}

@@ -1,0 +1,96 @@
+-- What happened to a client's log, newest first, and what it comes to: the lines, the joints and the times delivered,
+-- told from the history alone.
+use Rattle.std.specs.Prelude.{◌≡◌, ◌==◌, ◌&&◌, ℕ, ◌≤◌, ℤ, List, [], ◌∷◌, ◌++◌, Option, Some, None, if◌then◌else◌}
+use Rattle.set_model.specs.declared.line.Arrived.{Arrived}
+use Rattle.set_model.specs.declared.line.GapCause.TheVariants.{Late}
+use Rattle.set_model.specs.declared.line.LogLine.{LogLine}
+use Rattle.delivery_log.specs.declared.rule.Joint.{Joint}
+use Rattle.delivery_log.specs.declared.rule.Joint.TheVariants.{Open}
+use Rattle.delivery_log.specs.Judge.{joint_after, later}
+use Rattle.delivery_log.specs.State.{LogState}
+use Rattle.delivery_log.specs.Log.{entered, entry_lines, joint_at, last_at, new_log, noted, with_joint}
+
+-- an entry of a server and item is entered; their joint is set; a line is noted
+pub data Act : Type 0 where
+  Enter : (server item : ℕ) → (entry : Arrived) → Act
+  Set : (server item : ℕ) → (joint : Joint) → Act
+  Note : (line : LogLine) → Act
+
+-- the time of an item's last data line after an act, from the one before it
+abbrev pub last_by : ℕ → Act → Option ℤ → Option ℤ
+last_by item (Enter server i entry) last = if i == item then later last entry.time else last
+last_by item (Set server i joint) last = last
+last_by item (Note line) last = last
+
+-- the time of an item's last data line
+abbrev pub last_time : ℕ → List Act → Option ℤ
+last_time item [] = None
+last_time item (act ∷ earlier) = last_by item act (last_time item earlier)
+
+-- the joint of a server and item after an act, from the one before it
+abbrev pub joint_by : ℕ → ℕ → Act → Joint → Joint
+joint_by server item (Enter s i entry) joint = if (s == server) && (i == item) then joint_after entry.time joint else joint
+joint_by server item (Set s i next) joint = if (s == server) && (i == item) then next else joint
+joint_by server item (Note line) joint = joint
+
+-- the joint of a server and item
+abbrev pub joint_of : ℕ → ℕ → List Act → Joint
+joint_of server item [] = Open Late
+joint_of server item (act ∷ earlier) = joint_by server item act (joint_of server item earlier)
+
+-- the lines of an act, after an earlier history
+abbrev pub lines_after : Act → List Act → List LogLine
+lines_after (Enter server item entry) earlier = entry_lines item entry (last_time item earlier) (joint_of server item earlier)
+lines_after (Set server item joint) earlier = []
+lines_after (Note line) earlier = line ∷ []
+
+-- all lines, oldest first
+abbrev pub lines_of : List Act → List LogLine
+lines_of [] = []
+lines_of (act ∷ earlier) = lines_of earlier ++ lines_after act earlier
+
+-- the entry that came last for a server and item, after an act
+abbrev pub previous_by : ℕ → ℕ → Act → Option Arrived → Option Arrived
+previous_by server item (Enter s i entry) before = if (s == server) && (i == item) then Some entry else before
+previous_by server item (Set s i joint) before = before
+previous_by server item (Note line) before = before
+
+-- the entry that came last for a server and item
+abbrev pub previous : ℕ → ℕ → List Act → Option Arrived
+previous server item [] = None
+previous server item (act ∷ earlier) = previous_by server item act (previous server item earlier)
+
+-- what an act makes of the log that is kept
+abbrev pub acted : Act → LogState → LogState
+acted (Enter server item entry) log = entered server item entry log
+acted (Set server item joint) log = with_joint server item joint log
+acted (Note line) log = noted line log
+
+-- the log that is kept after all acts
+abbrev pub log_of : ℕ → ℕ → List Act → LogState
+log_of servers items [] = new_log servers items
+log_of servers items (act ∷ earlier) = acted act (log_of servers items earlier)
+
+-- a server and an item of so many
+pub record IsWithin (servers items server item : ℕ) : Type 0 where
+  pub server_from : 1 ≤ server
+  pub server_to : server ≤ servers
+  pub item_from : 1 ≤ item
+  pub item_to : item ≤ items
+
+-- the act is of servers and items of so many
+abbrev pub IsActWithin : ℕ → ℕ → Act → Type 0
+IsActWithin servers items (Enter server item entry) = IsWithin servers items server item
+IsActWithin servers items (Set server item joint) = IsWithin servers items server item
+IsActWithin servers items (Note line) = Unit {0}
+
+-- all acts are of servers and items of so many
+abbrev pub AreWithin : ℕ → ℕ → List Act → Type 0
+AreWithin servers items [] = Unit {0}
+AreWithin servers items (act ∷ earlier) = IsActWithin servers items act × AreWithin servers items earlier
+
+-- the log that is kept says what the history says: its lines, each joint, and each item's time last delivered
+pub record StandsFor (servers items : ℕ) (history : List Act) (log : LogState) : Type 0 where
+  pub lines : log.lines ≡ lines_of history
+  pub joints : (server item : ℕ) → IsWithin servers items server item → joint_at server item log ≡ joint_of server item history
+  pub lasts : (item : ℕ) → 1 ≤ item → item ≤ items → last_at item log ≡ last_time item history
