@@ -1,5 +1,5 @@
 -- Why an entry that is linked to the one before it skips nothing: the one before is not after the last data line.
-use Rattle.std.proofs.Common.{◌≡◌, ◌==◌, ◌&&◌, ℕ, ◌+◌, ◌<◌, ◌≤◌, ℤ, ◌<ℤ◌, List, [], ◌∷◌, Bool, true, false, cond, not, int_lt, Option, Some, None, IsSomeAnd, slice_get, refl, sym, ◌∙◌, ap, subst, arith}
+use Rattle.std.proofs.Common.{◌≡◌, ◌==◌, ◌&&◌, ℕ, ◌+◌, ◌≤◌, ℤ, ◌<ℤ◌, List, [], ◌∷◌, Bool, true, false, cond, not, int_lt, Option, Some, None, IsSomeAnd, refl, sym, ◌∙◌, ap, subst, arith}
 use Rattle.std.specs.Prelude.{if◌then◌else◌}
 use Rattle.std.proofs.lemmas.Option.{same_Some}
 use Rattle.set_model.specs.declared.line.Arrived.{Arrived}
@@ -7,8 +7,8 @@ use Rattle.set_model.specs.declared.source.Change.{Change}
 use Rattle.set_model.specs.Source.{of_item, Rises}
 use Rattle.delivery_log.specs.Judge.{has_overflow, later}
 use Rattle.delivery_log.specs.Safe.{IsChangeAt}
-use Rattle.delivery_log.specs.History.{Act, Enter, Set, Note, last_by, last_time, previous}
-use Rattle.delivery_log.specs.WellFed.{IsAt, Linked}
+use Rattle.delivery_log.specs.History.{Act, Enter, Set, Note, last_time, previous}
+use Rattle.delivery_log.specs.WellFed.{Linked}
 use Rattle.delivery_log.proofs.Times.{irreflexive, transitive, before_from_test, not_before_from_test}
 use Rattle.delivery_log.proofs.Places.{place_from_time}
 use Rattle.delivery_log.proofs.Steps.{IsLast, IsLastAt}

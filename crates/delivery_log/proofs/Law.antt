@@ -1,5 +1,5 @@
 -- The law of the log: what is well fed is safe, and what is fed is in order.
-use Rattle.std.proofs.Common.{◌≡◌, ◌==◌, ℕ, ◌≤◌, ℤ, List, [], ◌∷◌, ◌++◌, Bool, true, false, cond, Option, Some, None, IsSomeAnd, refl, sym, ◌∙◌, ap, subst, arith}
+use Rattle.std.proofs.Common.{◌≡◌, ◌==◌, ℕ, ◌≤◌, ℤ, List, [], ◌∷◌, ◌++◌, Bool, true, false, cond, Option, Some, None, IsSomeAnd, refl, sym, subst, arith}
 use Rattle.std.proofs.lemmas.Bool.Decides.{nat_tests}
 use Rattle.std.proofs.lemmas.List.{map-append}
 use Rattle.set_model.specs.declared.line.Arrived.{Arrived}
@@ -12,8 +12,8 @@ use Rattle.delivery_log.specs.declared.rule.Joint.TheVariants.{Joined}
 use Rattle.delivery_log.specs.Judge.{has_overflow, later, verdict_of}
 use Rattle.delivery_log.specs.Log.{entry_lines, lines_by}
 use Rattle.delivery_log.specs.Safe.{Part, part_of, parts_of, IsChangeAt, Safe, InOrder}
-use Rattle.delivery_log.specs.History.{Act, Enter, Set, Note, joint_of, last_by, last_time, lines_after, lines_of, previous}
-use Rattle.delivery_log.specs.WellFed.{is_note, IsFedEntry, IsFedAct, IsLinkedAct, IsFed, Linked, WellFed}
+use Rattle.delivery_log.specs.History.{Act, Enter, Set, Note, joint_of, last_by, last_time, lines_after, lines_of}
+use Rattle.delivery_log.specs.WellFed.{is_note, IsFedEntry, IsFedAct, IsLinkedAct, IsFed, WellFed}
 use Rattle.delivery_log.proofs.Steps.{IsLast, GoesOn, own_step, stays, stays_other, parts_of_own, parts_of_other, walk_on, safe_from_walk, in_order_from_walk}
 use Rattle.delivery_log.proofs.Former.{linked_next}
 

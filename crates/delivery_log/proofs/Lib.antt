@@ -3,3 +3,5 @@ pub mod Places
 pub mod Steps
 pub mod Former
 pub mod Law
+pub mod Causes
+pub mod Kept

@@ -1,10 +1,10 @@
 -- In a list of changes with rising times, the order of times is the order of places.
-use Rattle.std.proofs.Common.{◌≡◌, ℕ, zero, suc, ◌+◌, ◌<◌, ◌≤◌, ◌⊎◌, inl, inr, ℤ, ◌<ℤ◌, List, [], ◌∷◌, Option, Some, None, slice_get, refl, sym, ◌∙◌, ap, subst, arith}
+use Rattle.std.proofs.Common.{◌≡◌, ℕ, zero, suc, ◌<◌, ◌≤◌, ◌⊎◌, inl, inr, ◌<ℤ◌, List, [], ◌∷◌, Some, slice_get, sym, ◌∙◌, ap, subst, arith}
 use Rattle.std.proofs.lemmas.Bool.{cases_lt}
 use Rattle.std.proofs.lemmas.Option.{same_Some}
 use Rattle.set_model.specs.declared.source.Change.{Change}
-use Rattle.set_model.specs.Source.{Follows, RisesAfter, Rises}
-use Rattle.delivery_log.proofs.Times.{irreflexive, transitive, not_after}
+use Rattle.set_model.specs.Source.{RisesAfter, Rises}
+use Rattle.delivery_log.proofs.Times.{irreflexive, transitive}
 
 rises_tail : (c : Change) (cs : List Change) → RisesAfter c cs → Rises cs
 rises_tail c [] h = tt

@@ -1,9 +1,7 @@
 -- Safety as a walk over the log that says how many places it has used at its end.
 use Rattle.std.proofs.Common.{◌≡◌, ◌==◌, ℕ, ◌+◌, ◌<◌, ◌≤◌, ◌⊎◌, inl, inr, ℤ, ◌<ℤ◌, List, [], ◌∷◌, ◌++◌, Bool, true, false, cond, not, int_lt, Option, Some, None, IsSomeAnd, slice_get, refl, sym, ◌∙◌, ap, subst, arith}
-use Rattle.std.proofs.lemmas.Bool.Decides.{nat_tests}
 use Rattle.std.specs.Prelude.{if◌then◌else◌}
 use Rattle.set_model.specs.declared.line.Arrived.{Arrived}
-use Rattle.set_model.specs.declared.line.GapCause.TheVariants.{Overflow, Warm}
 use Rattle.set_model.specs.declared.line.Seen.{Seen}
 use Rattle.set_model.specs.declared.source.Change.{Change}
 use Rattle.set_model.specs.Source.{Rises}
@@ -13,7 +11,7 @@ use Rattle.delivery_log.specs.declared.rule.Verdict.{Verdict}
 use Rattle.delivery_log.specs.declared.rule.Verdict.TheVariants.{Nothing, Deliver, GapDeliver}
 use Rattle.delivery_log.specs.Judge.{later, verdict_after, verdict_of}
 use Rattle.delivery_log.specs.Log.{timed_lines}
-use Rattle.delivery_log.specs.Safe.{Part, Data, GapPart, Between, LeftOut, part_of, parts_of, IsChangeAt, MaySkip, SafeFrom, InOrderFrom}
+use Rattle.delivery_log.specs.Safe.{Part, Data, GapPart, Between, LeftOut, parts_of, IsChangeAt, MaySkip, SafeFrom, InOrderFrom}
 use Rattle.delivery_log.proofs.Times.{before_from_test}
 use Rattle.delivery_log.proofs.Places.{before_from_time}
 

@@ -8,7 +8,7 @@ use Rattle.delivery_log.specs.declared.rule.Joint.{Joint}
 use Rattle.delivery_log.specs.declared.rule.Joint.TheVariants.{Open}
 use Rattle.delivery_log.specs.Judge.{joint_after, later}
 use Rattle.delivery_log.specs.State.{LogState}
-use Rattle.delivery_log.specs.Log.{entered, entry_lines, joint_at, last_at, new_log, noted, with_joint}
+use Rattle.delivery_log.specs.Log.{IsWithin, entered, entry_lines, joint_at, last_at, new_log, noted, with_joint}
 
 -- an entry of a server and item is entered; their joint is set; a line is noted
 pub data Act : Type 0 where
@@ -70,13 +70,6 @@ acted (Note line) log = noted line log
 abbrev pub log_of : ℕ → ℕ → List Act → LogState
 log_of servers items [] = new_log servers items
 log_of servers items (act ∷ earlier) = acted act (log_of servers items earlier)
-
--- a server and an item of so many
-pub record IsWithin (servers items server item : ℕ) : Type 0 where
-  pub server_from : 1 ≤ server
-  pub server_to : server ≤ servers
-  pub item_from : 1 ≤ item
-  pub item_to : item ≤ items
 
 -- the act is of servers and items of so many
 abbrev pub IsActWithin : ℕ → ℕ → Act → Type 0

@@ -23,12 +23,16 @@ new_log servers items = record {
   lines = [];
 }
 
--- the log is one of this server and item
-pub record Covers (server item : ℕ) (log : LogState) : Type 0 where
+-- a server and an item of so many, both numbered from 1
+pub record IsWithin (servers items server item : ℕ) : Type 0 where
   pub server_from : 1 ≤ server
-  pub server_to : server ≤ length log.joints
+  pub server_to : server ≤ servers
   pub item_from : 1 ≤ item
-  pub item_to : item ≤ length log.lasts
+  pub item_to : item ≤ items
+
+-- the log is one of this server and item
+abbrev pub Covers : ℕ → ℕ → LogState → Type 0
+Covers server item log = IsWithin (length log.joints) (length log.lasts) server item
 
 -- the time of an item's last data line
 abbrev pub last_at : ℕ → LogState → Option ℤ

@@ -2,7 +2,11 @@
 #![tactic(auto)]
 
 mod client_log;
+mod laws;
 mod rule;
 
 pub use client_log::Log;
+pub use laws::{
+    fed_is_in_order, gaps_have_true_causes, log_stands_for_its_history, well_fed_is_safe,
+};
 pub use rule::{Joint, Verdict, judge};
