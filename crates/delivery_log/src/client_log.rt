@@ -128,6 +128,13 @@ impl Log {
         Ok(Log { lasts, joints, lines: Vec::new(alloc) })
     }
 
+    /// How many items it is of.
+    pub fn items(&self) -> usize
+        ensures { result ≡ length self.now.lasts }
+    {
+        self.lasts.len()
+    }
+
     /// The joint of a server and item, both numbered from 1.
     pub fn joint(&self, server: u8, item: u8) -> Joint
         requires { Covers server item self.now }
