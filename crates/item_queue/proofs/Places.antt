@@ -1,11 +1,12 @@
 -- What a taken entry says of its place in the stream.
-use Rattle.std.proofs.Common.{◌≡◌, ℕ, zero, suc, ◌+◌, ◌-◌, ◌≤◌, ◌<◌, List, [], ◌∷◌, Bool, true, false, Option, Some, None, length, drop, max, refl, sym, ◌∙◌, ap, ap₂, arith, slice_get}
+use Rattle.std.proofs.Common.{◌≡◌, ℕ, zero, suc, ◌+◌, ◌-◌, ◌≤◌, ◌<◌, List, [], ◌∷◌, Some, length, drop, refl, sym, ◌∙◌, ap, arith, slice_get}
 use Rattle.std.proofs.Math.Seq.{drop-nil}
 use Rattle.set_model.specs.declared.source.Change.{Change}
 use Rattle.item_queue.specs.declared.queue.Entry.{Entry}
 use Rattle.item_queue.specs.State.{QueueState}
-use Rattle.item_queue.specs.Stream.{Call, Take, Stream, window, first_place, is_marked, first_marked, stream_after_take, stream_after, oldest_of, TakesAtPlace}
-use Rattle.item_queue.proofs.Window.{Holds, stream_of, before, window_cut, place_cut, left_over, next_place, taken_first}
+use Rattle.item_queue.specs.Queue.{Holds}
+use Rattle.item_queue.specs.Stream.{Stream, window, first_place, is_marked, first_marked, stream_after_take, TakesAtPlace}
+use Rattle.item_queue.proofs.Window.{stream_of, before, window_cut, place_cut, left_over, next_place, taken_first}
 
 -- the first one behind so many
 first_behind : (changes : List Change) (n : ℕ) (change : Change) (shown : List Change) → drop n changes ≡ change ∷ shown → slice_get changes n ≡ Some change

@@ -1,17 +1,16 @@
 -- A queue holds the window of its stream, with its marks: at the start, and after each call.
-use Rattle.std.proofs.Common.{◌≡◌, ◌==◌, ◌≢◌, ℕ, suc, ◌+◌, ◌-◌, ◌≤◌, ◌<◌, ◌⊎◌, inl, inr, List, [], ◌∷◌, ◌++◌, Bool, true, false, not, cond, nat_lt, Option, Some, None, length, drop, max, refl, sym, ◌∙◌, ap, ap₂, subst, arith, slice_get}
-use Rattle.std.specs.Prelude.{nat_le, ◌&&◌, if◌then◌else◌, All}
+use Rattle.std.proofs.Common.{◌≡◌, ℕ, zero, suc, ◌+◌, ◌-◌, ◌≤◌, ◌<◌, List, [], ◌∷◌, ◌++◌, Bool, true, false, cond, nat_lt, length, drop, max, refl, sym, ◌∙◌, ap, ap₂, subst, arith, slice_get}
+use Rattle.std.specs.Prelude.{replicate, All}
 use Rattle.std.proofs.lemmas.Bool.Decides.{nat_tests}
 use Rattle.std.proofs.lemmas.List.{drop-append-le, length-drop, drop-drop}
 use Rattle.std.proofs.lemmas.List.Elements.{All-cons}
-use Rattle.std.proofs.Math.Seq.{drop-nil}
 use Rattle.std.proofs.Common.{length-append}
 use Rattle.set_model.specs.declared.source.Change.{Change}
 use Rattle.item_queue.specs.declared.queue.Entry.{Entry}
 use Rattle.item_queue.specs.State.{QueueState}
 use Rattle.item_queue.specs.Queue as queue
-use Rattle.item_queue.specs.Queue.{empty_queue, marked_first, unmarked, with_change}
-use Rattle.item_queue.specs.Stream.{Call, Push, Take, Clear, Stream, new_stream, last_ones, window, first_place, is_marked, in_turn, held_of, first_marked, oldest_of, stream_after_take, stream_after, stream_from, stream_run, queue_after_call, queue_after}
+use Rattle.item_queue.specs.Queue.{empty_queue, marked_first, unmarked, with_change, queue_after_call, queue_after, Holds}
+use Rattle.item_queue.specs.Stream.{Call, Push, Take, Clear, Stream, new_stream, window, first_place, is_marked, in_turn, held_of, first_marked, oldest_of, stream_after_take, stream_after, stream_from, stream_run}
 
 abbrev pub stream_of : List Change → ℕ → Stream
 stream_of changes taken = record { pushed = changes; taken = taken }
@@ -161,7 +160,7 @@ left_over size changes taken n change shown within is e =
 take_held : (size : ℕ) (changes : List Change) (taken n : ℕ) (shown : List Change) → 1 ≤ size → taken ≤ length changes → n ≡ before size taken (length changes)
     → window size (stream_of changes taken) ≡ shown
     → drop 1 (held_of size (stream_of changes taken))
-      ≡ held_of size (stream_after_take shown (first_place size (stream_of changes taken)) (stream_of changes taken))
+    ≡ held_of size (stream_after_take shown (first_place size (stream_of changes taken)) (stream_of changes taken))
 take_held size changes taken n [] positive within is e =
     let P : List Change → Type 0 = λ w. drop 1 (in_turn size taken (first_place size (stream_of changes taken)) w) ≡ in_turn size taken (first_place size (stream_of changes taken)) w in
     subst P (sym e) refl
@@ -185,7 +184,7 @@ take_within size changes taken n (change ∷ shown) within is e =
 take_moved_within : (size : ℕ) (changes : List Change) (taken : ℕ) (shown : List Change) → taken ≤ length changes
     → window size (stream_of changes taken) ≡ shown
     → (stream_after_take shown (first_place size (stream_of changes taken)) (stream_of changes taken)).taken
-      ≤ length (stream_after_take shown (first_place size (stream_of changes taken)) (stream_of changes taken)).pushed
+    ≤ length (stream_after_take shown (first_place size (stream_of changes taken)) (stream_of changes taken)).pushed
 take_moved_within size changes taken [] within e = within
 take_moved_within size changes taken (change ∷ shown) within e = take_within size changes taken _ (change ∷ shown) within refl e
 
@@ -194,41 +193,35 @@ pushed_within changes taken change within =
     let long : length (changes ++ change ∷ []) ≡ length changes + 1 = length-append changes (change ∷ []) in
     omega arith
 
--- the queue holds what the stream says
-pub record Holds (size : ℕ) (state : QueueState) (stream : Stream) : Type 0 where
-  pub positive : 1 ≤ size
-  pub size_is : state.size ≡ size
-  pub within : stream.taken ≤ length stream.pushed
-  pub entries : state.entries ≡ held_of size stream
-
+-- an empty queue holds a new stream
 pub holds_start : (size : ℕ) → 1 ≤ size → Holds size (empty_queue size) new_stream
-holds_start size positive = record { positive = positive; size_is = refl; within = omega arith; entries = sym (held_cut size [] 0 0 (omega arith) (omega arith)) }
+holds_start size positive = record { least = positive; size_is = refl; within = omega arith; entries = sym (held_cut size [] 0 0 (omega arith) (omega arith)) }
 
 pub holds_push : (size : ℕ) (state : QueueState) (stream : Stream) (change : Change) → Holds size state stream
     → Holds size (queue.pushed change state) (stream_after size (Push change) stream)
 holds_push size state stream change h = record {
-  positive = h.positive;
+  least = h.least;
   size_is = h.size_is;
   within = pushed_within stream.pushed stream.taken change h.within;
-  entries = ap₂ (λ n held. with_change n change held) h.size_is h.entries ∙ push_held size stream.pushed stream.taken _ change h.positive h.within refl _ refl;
+  entries = ap₂ (λ n held. with_change n change held) h.size_is h.entries ∙ push_held size stream.pushed stream.taken _ change h.least h.within refl _ refl;
 }
 
 pub holds_take : (size : ℕ) (state : QueueState) (stream : Stream) → Holds size state stream
     → Holds size (queue.without_oldest 1 state) (stream_after size Take stream)
 holds_take size state stream h = record {
-  positive = h.positive;
+  least = h.least;
   size_is = h.size_is;
   within = take_moved_within size stream.pushed stream.taken _ h.within refl;
-  entries = ap (drop 1) h.entries ∙ take_held size stream.pushed stream.taken _ _ h.positive h.within refl refl;
+  entries = ap (drop 1) h.entries ∙ take_held size stream.pushed stream.taken _ _ h.least h.within refl refl;
 }
 
 pub holds_clear : (size : ℕ) (state : QueueState) (stream : Stream) → Holds size state stream
     → Holds size (empty_queue state.size) (stream_after size Clear stream)
 holds_clear size state stream h = record {
-  positive = h.positive;
+  least = h.least;
   size_is = h.size_is;
   within = omega arith;
-  entries = (holds_start size h.positive).entries;
+  entries = (holds_start size h.least).entries;
 }
 
 -- each call keeps it
@@ -246,6 +239,21 @@ holds_from size (call ∷ calls) state stream h = holds_from size calls (queue_a
 -- after any calls the queue holds the window
 pub holds_run : (size : ℕ) (calls : List Call) → 1 ≤ size → Holds size (queue_after calls (empty_queue size)) (stream_run size calls)
 holds_run size calls positive = holds_from size calls (empty_queue size) new_stream (holds_start size positive)
+
+-- a take of several entries is so many takes of one
+pub queue_after-takes : (count : ℕ) (state : QueueState) → queue_after (replicate count Take) state ≡ queue.without_oldest count state
+queue_after-takes zero state = refl
+queue_after-takes (suc count) state =
+    let more : 1 + count ≡ suc count = omega arith in
+    queue_after-takes count (queue.without_oldest 1 state)
+    ∙ ap (λ entries. record state { entries = entries }) (drop-drop count 1 state.entries ∙ ap (λ n. drop n state.entries) more)
+
+-- and so keeps it
+pub holds_takes : (size count : ℕ) (state : QueueState) (stream : Stream) → Holds size state stream
+    → Holds size (queue.without_oldest count state) (stream_from size (replicate count Take) stream)
+holds_takes size count state stream h =
+    let P : QueueState → Type 0 = λ after. Holds size after (stream_from size (replicate count Take) stream) in
+    subst P (queue_after-takes count state) (holds_from size (replicate count Take) state stream h)
 
 -- what a take gives is the window's first
 pub taken_first : (size : ℕ) (state : QueueState) (stream : Stream) → Holds size state stream → slice_get state.entries 0 ≡ oldest_of size stream

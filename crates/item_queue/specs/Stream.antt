@@ -1,9 +1,8 @@
--- What a queue of a size holds, said of the stream of changes and its places. A push only makes the stream longer.
+-- What a queue of a size holds, said of the stream of its changes and of places in it (OPC 10000-4, 5.12.1.5).
+-- Nothing here knows how a queue pushes, drops or marks.
 use Rattle.std.specs.Prelude.{◌≡◌, ◌≤◌, ◌<◌, false, slice_get, ℕ, ◌+◌, ◌-◌, ◌==◌, List, [], ◌∷◌, ◌++◌, Bool, ◌&&◌, not, nat_le, length, drop, Option, Some, None}
 use Rattle.set_model.specs.declared.source.Change.{Change}
 use Rattle.item_queue.specs.declared.queue.Entry.{Entry}
-use Rattle.item_queue.specs.State.{QueueState}
-use Rattle.item_queue.specs.Queue as queue
 
 -- one call on a queue; a take is of one entry
 pub data Call : Type 0 where
@@ -16,13 +15,15 @@ pub record Stream : Type 0 where
   pub pushed : List Change
   pub taken : ℕ
 
+-- before any change came
 abbrev pub new_stream : Stream
 new_stream = record { pushed = []; taken = 0 }
 
+-- a list cut to its last ones
 abbrev pub last_ones : ℕ → List Change → List Change
 last_ones count changes = drop (length changes - count) changes
 
--- what is left without the first places up to the one last taken, cut to its last ones
+-- what came after the place last taken, cut to the last ones that the size allows
 abbrev pub window : ℕ → Stream → List Change
 window size stream = last_ones size (drop stream.taken stream.pushed)
 
@@ -30,7 +31,7 @@ window size stream = last_ones size (drop stream.taken stream.pushed)
 abbrev pub first_place : ℕ → Stream → ℕ
 first_place size stream = length stream.pushed - length (window size stream) + 1
 
--- places before this one are missing, in a queue that marks
+-- a queue of two or more marks what does not stand directly after the place taken before it
 abbrev pub is_marked : ℕ → ℕ → ℕ → Bool
 is_marked size taken place = nat_le 2 size && not (place == taken + 1)
 
@@ -44,6 +45,7 @@ in_turn size taken place (change ∷ changes) =
 abbrev pub held_of : ℕ → Stream → List Entry
 held_of size stream = in_turn size stream.taken (first_place size stream) (window size stream)
 
+-- the first of the changes from a place on, with its mark
 abbrev pub first_marked : ℕ → ℕ → ℕ → List Change → Option Entry
 first_marked size taken place [] = None
 first_marked size taken place (change ∷ changes) = Some (record { change = change; marked = is_marked size taken place })
@@ -57,6 +59,7 @@ abbrev pub stream_after_take : List Change → ℕ → Stream → Stream
 stream_after_take [] place stream = stream
 stream_after_take (change ∷ changes) place stream = record stream { taken = place }
 
+-- the stream after one call on a queue of this size
 abbrev pub stream_after : ℕ → Call → Stream → Stream
 stream_after size (Push change) stream = record stream { pushed = stream.pushed ++ change ∷ [] }
 stream_after size Take stream = stream_after_take (window size stream) (first_place size stream) stream
@@ -71,20 +74,11 @@ pub record TakesAtPlace (size : ℕ) (stream : Stream) (entry : Entry) : Type 0 
   pub next : 2 ≤ size → entry.marked ≡ false → first_place size stream ≡ stream.taken + 1
   pub moves : stream_after size Take stream ≡ record stream { taken = first_place size stream }
 
+-- the stream after more calls
 abbrev pub stream_from : ℕ → List Call → Stream → Stream
 stream_from size [] stream = stream
 stream_from size (call ∷ calls) stream = stream_from size calls (stream_after size call stream)
 
--- the stream after these calls
+-- the stream after all calls
 abbrev pub stream_run : ℕ → List Call → Stream
 stream_run size calls = stream_from size calls new_stream
-
-abbrev pub queue_after_call : Call → QueueState → QueueState
-queue_after_call (Push change) state = queue.pushed change state
-queue_after_call Take state = queue.without_oldest 1 state
-queue_after_call Clear state = queue.empty_queue state.size
-
--- the queue after these calls, by what the queue does at each
-abbrev pub queue_after : List Call → QueueState → QueueState
-queue_after [] state = state
-queue_after (call ∷ calls) state = queue_after calls (queue_after_call call state)

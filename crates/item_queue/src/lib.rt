@@ -6,5 +6,5 @@ mod queue;
 #[cfg(test)]
 mod tests;
 
-pub use laws::holds_the_window;
+pub use laws::{holds_the_window, keeps_the_window};
 pub use queue::{Entry, ItemQueue, MOST_ENTRIES};

@@ -74,7 +74,12 @@ fn drop_oldest(ring: &mut HeapCircularBuffer<Entry>)
 }
 
 /// Appends the first `count` entries of two parts to a list.
-fn append_first(first: &[Entry], second: &[Entry], count: usize, to: &mut Vec<Entry>) -> Result<(), OutOfMemory>
+fn append_first(
+    first: &[Entry],
+    second: &[Entry],
+    count: usize,
+    to: &mut Vec<Entry>,
+) -> Result<(), OutOfMemory>
     requires { count ≤ length first.now + length second.now }
     ensures ok { OnOk result (to.new.items ≡ to.old.items ++ take count (first.now ++ second.now)) }
     ensures err { OnErr result (to.new.items ≡ to.old.items) }

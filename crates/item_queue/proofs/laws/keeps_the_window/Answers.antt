@@ -1,0 +1,8 @@
+use Rattle.item_queue.proofs.Window.{holds_start, holds_step}
+use Rattle.item_queue.proofs.laws.keeps_the_window.Goals as goal
+
+pub returns-clause-start : goal.returns-clause-start
+returns-clause-start c = holds_start
+
+pub returns-clause-step : goal.returns-clause-step
+returns-clause-step c = holds_step
