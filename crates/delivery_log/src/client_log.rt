@@ -49,14 +49,6 @@ impl Joints {
     }
 }
 
-/// The client's log: its lines, and what the rule needs of what was delivered.
-#[derive(Debug, Drop)]
-pub struct Log {
-    lasts: Vec<Option<i64>>,
-    joints: Vec<Joints>,
-    lines: Vec<LogLine>,
-}
-
 /// The joints of all servers before anything came.
 fn late_joints(alloc: Global, servers: u8, items: u8) -> Result<Vec<Joints>, OutOfMemory>
     ensures { IfOk result (λ joints. joints.items ≡ late_joints servers items) }
@@ -119,6 +111,14 @@ fn push_data(
 {
     lines.push(data_line(alloc, item, time, entry)?)?;
     Ok(())
+}
+
+/// The client's log: its lines, and what the rule needs of what was delivered.
+#[derive(Debug, Drop)]
+pub struct Log {
+    lasts: Vec<Option<i64>>,
+    joints: Vec<Joints>,
+    lines: Vec<LogLine>,
 }
 
 impl Model for Log {
