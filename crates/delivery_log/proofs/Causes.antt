@@ -86,8 +86,8 @@ own_first server item place time entry earlier cause timed h =
       first = f.first;
       timed = timed;
       next =
-        ap (λ o. slice_get (lines_by item o entry (verdict_of (last_time item earlier) (joint_of server item earlier) o (has_overflow entry.status))) 1) timed
-        ∙ ap (λ v. slice_get (timed_lines item time entry v) 1) f.gap;
+          ap (λ o. slice_get (lines_by item o entry (verdict_of (last_time item earlier) (joint_of server item earlier) o (has_overflow entry.status))) 1) timed
+          ∙ ap (λ v. slice_get (timed_lines item time entry v) 1) f.gap;
       told = told_of (last_time item earlier) (joint_of server item earlier) time entry cause f.gap;
     }
 
@@ -96,7 +96,7 @@ own_same : (server i item place : ℕ) (time : ℤ) (entry : Arrived) (earlier :
     → IsOwn (Enter server i entry) earlier place item cause
 own_same server i item place time entry earlier cause is timed h =
     let P : ℕ → Type 0 = λ n. slice_get (lines_by n (Some time) entry (verdict_of (last_time n earlier) (joint_of server n earlier) (Some time) (has_overflow entry.status))) place ≡ Some (line.Gap item cause)
-          → IsOwn (Enter server n entry) earlier place item cause in
+    → IsOwn (Enter server n entry) earlier place item cause in
     subst P (sym is) (λ k. own_first server item place time entry earlier cause timed k) h
 
 own_timed : (server i item place : ℕ) (entry : Arrived) (earlier : List Act) (cause : GapCause) (o : Option ℤ) → entry.time ≡ o
@@ -158,7 +158,7 @@ caused_cases act earlier place item cause n ih h (inl less) =
     caused_earlier act earlier place item cause (ih place (sym (get_front (lines_of earlier) (lines_after act earlier) place less) ∙ h))
 caused_cases act earlier place item cause n ih h (inr most) =
     caused_now act earlier place item cause most
-      (own_gap act earlier (place - length (lines_of earlier)) item cause n (sym (get_back (lines_of earlier) (lines_after act earlier) place most) ∙ h))
+    (own_gap act earlier (place - length (lines_of earlier)) item cause n (sym (get_back (lines_of earlier) (lines_after act earlier) place most) ∙ h))
 
 caused_at : (history : List Act) (place item : ℕ) (cause : GapCause) → AreNotes history → slice_get (lines_of history) place ≡ Some (line.Gap item cause) → IsCaused history (lines_of history) place item cause
 caused_at [] place item cause n h = absurd cc

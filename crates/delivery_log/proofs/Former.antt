@@ -53,7 +53,7 @@ pub previous_reached : (server item : ℕ) (history : List Act) (former : Arrive
 previous_reached server item [] former time h timed = absurd cc
 previous_reached server item (Enter s i entry ∷ earlier) former time h timed =
     entered_reaches (s == server) (i == item) entry former (previous server item earlier) (last_time item earlier) time
-      (λ e. previous_reached server item earlier former time e timed) h timed
+    (λ e. previous_reached server item earlier former time e timed) h timed
 previous_reached server item (Set s i joint ∷ earlier) former time h timed = previous_reached server item earlier former time h timed
 previous_reached server item (Note line ∷ earlier) former time h timed = previous_reached server item earlier former time h timed
 
@@ -72,7 +72,7 @@ place_reached cs used from last time entry rises l reached h =
     let P : ℤ → Type 0 = λ t. t <ℤ time in
     let Q : ℤ → Type 0 = λ t. l.change.time <ℤ t in
     let least : from ≤ l.place = place_from_time cs from l.place h.change l.change rises
-          (λ late. reached (subst P (sym l.time_is) (subst Q (sym h.time_is) late))) h.here l.here in
+    (λ late. reached (subst P (sym l.time_is) (subst Q (sym h.time_is) late))) h.here l.here in
     let is : used ≡ l.place + 1 = l.used_is in
     omega arith
 
@@ -93,7 +93,7 @@ next_of_previous : (source : List Change) (server item : ℕ) (earlier : List Ac
 next_of_previous source server item earlier entry used place time None e rises l timed h k unmarked = absurd k
 next_of_previous source server item earlier entry used place time (Some former) e rises l timed h k unmarked =
     next_of_last source item former entry used place time (last_time item earlier) rises l timed h k unmarked
-      (previous_reached server item earlier former k.former_at.time e k.former_at.timed)
+    (previous_reached server item earlier former k.former_at.time e k.former_at.timed)
 
 -- an unmarked entry that is linked to the one before it of its server and item is at the first place not used, or before
 pub linked_next : (source : List Change) (server item : ℕ) (earlier : List Act) (entry : Arrived) (used place : ℕ) (time : ℤ)

@@ -30,7 +30,7 @@ set_test xs i j x d within i_from j_from false e =
 joint_set : (joints : List (List Joint)) (servers items s i server item : ℕ) (joint d : Joint) → length joints ≡ servers → HaveWidth items joints → IsWithin servers items s i → IsWithin servers items server item
     → (b c : Bool) → (s == server) ≡ b → (i == item) ≡ c
     → slice_index_or (slice_index_or (slice_set joints (s - 1) (slice_set (slice_index_or joints (s - 1) []) (i - 1) joint)) (server - 1) []) (item - 1) d
-      ≡ cond (b && c) joint (slice_index_or (slice_index_or joints (server - 1) []) (item - 1) d)
+    ≡ cond (b && c) joint (slice_index_or (slice_index_or joints (server - 1) []) (item - 1) d)
 joint_set joints servers items s i server item joint d long wide w v true c e f =
     let wide_here : length (slice_index_or joints (s - 1) []) ≡ items = wide.each (s - 1) (omega arith) in
     let is : s ≡ server = grind (arith, nat_tests) in
@@ -80,8 +80,8 @@ keeps_set servers items earlier log s i joint w k = record {
   stands = record {
     lines = k.stands.lines ∙ sym (append-nil (lines_of earlier));
     joints = λ server item v.
-      joint_is servers items log s i server item joint k.servers_are k.width w v
-      ∙ ap (cond ((s == server) && (i == item)) joint) (k.stands.joints server item v);
+        joint_is servers items log s i server item joint k.servers_are k.width w v
+        ∙ ap (cond ((s == server) && (i == item)) joint) (k.stands.joints server item v);
     lasts = k.stands.lasts;
   };
   servers_are = length-set log.joints (s - 1) _ ∙ k.servers_are;
@@ -124,15 +124,15 @@ keeps_enter servers items earlier log s i entry w k =
     record {
       stands = record {
         lines =
-          ap (λ lines. lines ++ entry_lines i entry (last_at i log) (joint_at s i log)) k.stands.lines
-          ∙ ap (λ o. lines_of earlier ++ entry_lines i entry o (joint_at s i log)) last
-          ∙ ap (λ j. lines_of earlier ++ entry_lines i entry (last_time i earlier) j) here;
+            ap (λ lines. lines ++ entry_lines i entry (last_at i log) (joint_at s i log)) k.stands.lines
+            ∙ ap (λ o. lines_of earlier ++ entry_lines i entry o (joint_at s i log)) last
+            ∙ ap (λ j. lines_of earlier ++ entry_lines i entry (last_time i earlier) j) here;
         joints = λ server item v.
-          joint_is servers items log s i server item (joint_after entry.time (joint_at s i log)) k.servers_are k.width w v
-          ∙ entered_joint earlier entry s i server item (joint_at s i log) (joint_at server item log) here (k.stands.joints server item v) (s == server) (i == item) refl refl;
+            joint_is servers items log s i server item (joint_after entry.time (joint_at s i log)) k.servers_are k.width w v
+            ∙ entered_joint earlier entry s i server item (joint_at s i log) (joint_at server item log) here (k.stands.joints server item v) (s == server) (i == item) refl refl;
         lasts = λ item from to.
-          last_is log.lasts items i item (later (last_at i log) entry.time) k.items_are w.item_from w.item_to from
-          ∙ entered_last earlier entry i item (last_at i log) (last_at item log) last (k.stands.lasts item from to) (i == item) refl;
+            last_is log.lasts items i item (later (last_at i log) entry.time) k.items_are w.item_from w.item_to from
+            ∙ entered_last earlier entry i item (last_at i log) (last_at item log) last (k.stands.lasts item from to) (i == item) refl;
       };
       servers_are = length-set log.joints (s - 1) _ ∙ k.servers_are;
       items_are = length-set log.lasts (i - 1) _ ∙ k.items_are;
@@ -145,16 +145,16 @@ keeps_new servers items = record {
   stands = record {
     lines = refl;
     joints = λ server item v.
-      ap (λ row. slice_index_or row (item - 1) (Open Late)) (get_or-replicate servers (server - 1) (replicate items (Open Late)) [] (omega arith))
-      ∙ get_or-replicate items (item - 1) (Open Late) (Open Late) (omega arith);
+        ap (λ row. slice_index_or row (item - 1) (Open Late)) (get_or-replicate servers (server - 1) (replicate items (Open Late)) [] (omega arith))
+        ∙ get_or-replicate items (item - 1) (Open Late) (Open Late) (omega arith);
     lasts = λ item from to. get_or-replicate items (item - 1) None None (omega arith);
   };
   servers_are = length-replicate servers _;
   items_are = length-replicate items None;
   width = record {
     each = λ place less.
-      let long : length (replicate servers (replicate items (Open Late))) ≡ servers = length-replicate servers _ in
-      ap length (get_or-replicate servers place (replicate items (Open Late)) [] (omega arith)) ∙ length-replicate items (Open Late);
+        let long : length (replicate servers (replicate items (Open Late))) ≡ servers = length-replicate servers _ in
+        ap length (get_or-replicate servers place (replicate items (Open Late)) [] (omega arith)) ∙ length-replicate items (Open Late);
   };
 }
 

@@ -41,7 +41,7 @@ own_timed told cs item entry (Some time) used last joint rises l fed next =
     let f : (place : ℕ) × IsChangeAt cs place time entry.value = fed time refl in
     let P : List Part → Type 0 = λ parts. GoesOn told cs used parts (later last (Some time)) in
     subst P (sym (parts_of_own item time entry (verdict_of last joint (Some time) (has_overflow entry.status)) (item == item) refl same))
-      (own_step told cs used last joint f.0 time entry.value (has_overflow entry.status) rises l f.1 (λ t j m. next time f.0 refl f.1 t j m))
+    (own_step told cs used last joint f.0 time entry.value (has_overflow entry.status) rises l f.1 (λ t j m. next time f.0 refl f.1 t j m))
 
 -- an entry of the item keeps the walk
 own_entry : (told : Bool) (source : List Change) (server item : ℕ) (entry : Arrived) (earlier : List Act) (used : ℕ) → Rises (of_item item source)
@@ -49,7 +49,7 @@ own_entry : (told : Bool) (source : List Change) (server item : ℕ) (entry : Ar
     → GoesOn told (of_item item source) used (parts_of item (entry_lines item entry (last_time item earlier) (joint_of server item earlier))) (later (last_time item earlier) entry.time)
 own_entry told source server item entry earlier used rises l fed links =
     own_timed told (of_item item source) item entry entry.time used (last_time item earlier) (joint_of server item earlier) rises l fed.fed
-      (λ time place timed h t j m. linked_next source server item earlier entry used place time rises l timed h (links t time timed j) m)
+    (λ time place timed h t j m. linked_next source server item earlier entry used place time rises l timed h (links t time timed j) m)
 
 other_timed : (told : Bool) (cs : List Change) (i item : ℕ) (entry : Arrived) (o : Option ℤ) (used : ℕ) (last own : Option ℤ) (joint : Joint) → IsLast cs used last → (i == item) ≡ false
     → GoesOn told cs used (parts_of item (lines_by i o entry (verdict_of own joint o (has_overflow entry.status)))) last
@@ -65,7 +65,7 @@ entry_step : (told : Bool) (source : List Change) (item server i : ℕ) (entry :
 entry_step told source item server i entry earlier used rises l fed links true e =
     let is : i ≡ item = grind (arith, nat_tests) in
     let P : ℕ → Type 0 = λ n. IsFedEntry source n entry → (told ≡ true → IsLinkedAct source (Enter server n entry) earlier)
-          → GoesOn told (of_item item source) used (parts_of item (lines_after (Enter server n entry) earlier)) (later (last_time item earlier) entry.time) in
+    → GoesOn told (of_item item source) used (parts_of item (lines_after (Enter server n entry) earlier)) (later (last_time item earlier) entry.time) in
     subst P (sym is) (λ f k. own_entry told source server item entry earlier used rises l f k) fed links
 entry_step told source item server i entry earlier used rises l fed links false e =
     other_timed told (of_item item source) i item entry entry.time used (last_time item earlier) (last_time i earlier) (joint_of server i earlier) l e
@@ -108,22 +108,22 @@ walk_of told source item [] rises fed links = stays told (of_item item source) 0
 walk_of told source item (act ∷ earlier) rises fed links =
     let w : GoesOn told (of_item item source) 0 (parts_of item (lines_of earlier)) (last_time item earlier) = walk_of told source item earlier rises fed.1 (λ t. (links t).1) in
     then_on told (of_item item source) item (lines_of earlier) (lines_after act earlier) (last_time item earlier) (last_by item act (last_time item earlier)) w
-      (act_step told source item act earlier w.after rises w.last_is fed.0 (λ t. (links t).0))
+    (act_step told source item act earlier w.after rises w.last_is fed.0 (λ t. (links t).0))
 
 -- THE LAW OF THE LOG
 pub safe_from_well_fed : (source : List Change) (history : List Act) → IsSource source → WellFed source history → Safe source (lines_of history)
 safe_from_well_fed source history h fed = record {
   each = λ item.
-    let w : GoesOn true (of_item item source) 0 (parts_of item (lines_of history)) (last_time item history) =
-          walk_of true source item history (h.rises item) (fed_from_well_fed source history fed) (λ t. links_of source history fed) in
-    safe_from_walk (of_item item source) 0 false (parts_of item (lines_of history)) w.after w.walk;
+      let w : GoesOn true (of_item item source) 0 (parts_of item (lines_of history)) (last_time item history) =
+      walk_of true source item history (h.rises item) (fed_from_well_fed source history fed) (λ t. links_of source history fed) in
+      safe_from_walk (of_item item source) 0 false (parts_of item (lines_of history)) w.after w.walk;
 }
 
 -- order alone, with no links
 pub in_order_from_fed : (source : List Change) (history : List Act) → IsSource source → IsFed source history → InOrder source (lines_of history)
 in_order_from_fed source history h fed = record {
   each = λ item.
-    let w : GoesOn false (of_item item source) 0 (parts_of item (lines_of history)) (last_time item history) =
-          walk_of false source item history (h.rises item) fed (λ t. absurd cc) in
-    in_order_from_walk (of_item item source) 0 false (parts_of item (lines_of history)) w.after w.walk;
+      let w : GoesOn false (of_item item source) 0 (parts_of item (lines_of history)) (last_time item history) =
+      walk_of false source item history (h.rises item) fed (λ t. absurd cc) in
+      in_order_from_walk (of_item item source) 0 false (parts_of item (lines_of history)) w.after w.walk;
 }

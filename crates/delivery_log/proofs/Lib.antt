@@ -5,3 +5,4 @@ pub mod Former
 pub mod Law
 pub mod Causes
 pub mod Kept
+pub mod KeptLaws

@@ -11,7 +11,7 @@ use Rattle.delivery_log.specs.declared.rule.Verdict.{Verdict}
 use Rattle.delivery_log.specs.declared.rule.Verdict.TheVariants.{Nothing, Deliver, GapDeliver}
 use Rattle.delivery_log.specs.Judge.{later, verdict_after, verdict_of}
 use Rattle.delivery_log.specs.Log.{timed_lines}
-use Rattle.delivery_log.specs.Safe.{Part, Data, GapPart, Between, LeftOut, parts_of, IsChangeAt, MaySkip, SafeFrom, InOrderFrom}
+use Rattle.delivery_log.specs.Safe.{Part, DataLine, GapLine, OtherLine, HeardLine, parts_of, IsChangeAt, MaySkip, SafeFrom, InOrderFrom}
 use Rattle.delivery_log.proofs.Times.{before_from_test}
 use Rattle.delivery_log.proofs.Places.{before_from_time}
 
@@ -23,11 +23,11 @@ SkipsIf false used place gap = Unit {0}
 -- `SafeFrom` (told) or `InOrderFrom` (not told), ending with so many places used and no gap line before what follows
 abbrev pub WalksTo : Bool → List Change → ℕ → Bool → List Part → ℕ → Type 0
 WalksTo told changes used gap [] after = (gap ≡ false) × (used ≡ after)
-WalksTo told changes used gap (Data time value ∷ rest) after =
+WalksTo told changes used gap (DataLine time value ∷ rest) after =
     (place : ℕ) × IsChangeAt changes place time value × (used ≤ place) × SkipsIf told used place gap × WalksTo told changes (place + 1) false rest after
-WalksTo told changes used gap (GapPart ∷ rest) after = WalksTo told changes used true rest after
-WalksTo told changes used gap (Between ∷ rest) after = WalksTo told changes used false rest after
-WalksTo told changes used gap (LeftOut ∷ rest) after = WalksTo told changes used gap rest after
+WalksTo told changes used gap (GapLine ∷ rest) after = WalksTo told changes used true rest after
+WalksTo told changes used gap (OtherLine ∷ rest) after = WalksTo told changes used false rest after
+WalksTo told changes used gap (HeardLine ∷ rest) after = WalksTo told changes used gap rest after
 
 -- one walk after another
 pub walk_on : (told : Bool) (cs : List Change) (used : ℕ) (gap : Bool) (xs ys : List Part) (between after : ℕ)
@@ -36,48 +36,55 @@ walk_on told cs used gap [] ys between after h k =
     let P : Bool → Type 0 = λ g. WalksTo told cs used g ys after in
     let Q : ℕ → Type 0 = λ u. WalksTo told cs u false ys after in
     subst P (sym h.0) (subst Q (sym h.1) k)
-walk_on told cs used gap (Data time value ∷ xs) ys between after h k =
+walk_on told cs used gap (DataLine time value ∷ xs) ys between after h k =
     (h.0, h.1, h.2, h.3, walk_on told cs (h.0 + 1) false xs ys between after h.4 k)
-walk_on told cs used gap (GapPart ∷ xs) ys between after h k = walk_on told cs used true xs ys between after h k
-walk_on told cs used gap (Between ∷ xs) ys between after h k = walk_on told cs used false xs ys between after h k
-walk_on told cs used gap (LeftOut ∷ xs) ys between after h k = walk_on told cs used gap xs ys between after h k
+walk_on told cs used gap (GapLine ∷ xs) ys between after h k = walk_on told cs used true xs ys between after h k
+walk_on told cs used gap (OtherLine ∷ xs) ys between after h k = walk_on told cs used false xs ys between after h k
+walk_on told cs used gap (HeardLine ∷ xs) ys between after h k = walk_on told cs used gap xs ys between after h k
 
 pub safe_from_walk : (cs : List Change) (used : ℕ) (gap : Bool) (xs : List Part) (after : ℕ) → WalksTo true cs used gap xs after → SafeFrom cs used gap xs
 safe_from_walk cs used gap [] after h = tt
-safe_from_walk cs used gap (Data time value ∷ xs) after h = (h.0, h.1, h.2, h.3, safe_from_walk cs (h.0 + 1) false xs after h.4)
-safe_from_walk cs used gap (GapPart ∷ xs) after h = safe_from_walk cs used true xs after h
-safe_from_walk cs used gap (Between ∷ xs) after h = safe_from_walk cs used false xs after h
-safe_from_walk cs used gap (LeftOut ∷ xs) after h = safe_from_walk cs used gap xs after h
+safe_from_walk cs used gap (DataLine time value ∷ xs) after h = (h.0, record { shows = h.1; forward = h.2; skip = h.3 }, safe_from_walk cs (h.0 + 1) false xs after h.4)
+safe_from_walk cs used gap (GapLine ∷ xs) after h = safe_from_walk cs used true xs after h
+safe_from_walk cs used gap (OtherLine ∷ xs) after h = safe_from_walk cs used false xs after h
+safe_from_walk cs used gap (HeardLine ∷ xs) after h = safe_from_walk cs used gap xs after h
 
 pub in_order_from_walk : (cs : List Change) (used : ℕ) (gap : Bool) (xs : List Part) (after : ℕ) → WalksTo false cs used gap xs after → InOrderFrom cs used xs
 in_order_from_walk cs used gap [] after h = tt
-in_order_from_walk cs used gap (Data time value ∷ xs) after h = (h.0, h.1, h.2, in_order_from_walk cs (h.0 + 1) false xs after h.4)
-in_order_from_walk cs used gap (GapPart ∷ xs) after h = in_order_from_walk cs used true xs after h
-in_order_from_walk cs used gap (Between ∷ xs) after h = in_order_from_walk cs used false xs after h
-in_order_from_walk cs used gap (LeftOut ∷ xs) after h = in_order_from_walk cs used gap xs after h
+in_order_from_walk cs used gap (DataLine time value ∷ xs) after h = (h.0, h.1, h.2, in_order_from_walk cs (h.0 + 1) false xs after h.4)
+in_order_from_walk cs used gap (GapLine ∷ xs) after h = in_order_from_walk cs used true xs after h
+in_order_from_walk cs used gap (OtherLine ∷ xs) after h = in_order_from_walk cs used false xs after h
+in_order_from_walk cs used gap (HeardLine ∷ xs) after h = in_order_from_walk cs used gap xs after h
+
+pub in_order_from_safe : (cs : List Change) (used : ℕ) (gap : Bool) (xs : List Part) → SafeFrom cs used gap xs → InOrderFrom cs used xs
+in_order_from_safe cs used gap [] h = tt
+in_order_from_safe cs used gap (DataLine time value ∷ xs) h = (h.0, h.1.shows, h.1.forward, in_order_from_safe cs (h.0 + 1) false xs h.2)
+in_order_from_safe cs used gap (GapLine ∷ xs) h = in_order_from_safe cs used true xs h
+in_order_from_safe cs used gap (OtherLine ∷ xs) h = in_order_from_safe cs used false xs h
+in_order_from_safe cs used gap (HeardLine ∷ xs) h = in_order_from_safe cs used gap xs h
 
 -- the parts that an entry's lines are to its own item, and to another one
 abbrev pub own_parts : ℤ → Seen → Verdict → List Part
 own_parts time value Nothing = []
-own_parts time value Deliver = Data time value ∷ []
-own_parts time value (GapDeliver cause) = GapPart ∷ Data time value ∷ []
+own_parts time value Deliver = DataLine time value ∷ []
+own_parts time value (GapDeliver cause) = GapLine ∷ DataLine time value ∷ []
 
 abbrev pub other_parts : Verdict → List Part
 other_parts Nothing = []
-other_parts Deliver = Between ∷ []
-other_parts (GapDeliver cause) = Between ∷ Between ∷ []
+other_parts Deliver = OtherLine ∷ []
+other_parts (GapDeliver cause) = OtherLine ∷ OtherLine ∷ []
 
 pub parts_of_own : (item : ℕ) (time : ℤ) (entry : Arrived) (verdict : Verdict) → (b : Bool) → (item == item) ≡ b → b ≡ true
     → parts_of item (timed_lines item time entry verdict) ≡ own_parts time entry.value verdict
 parts_of_own item time entry Nothing b e is = refl
-parts_of_own item time entry Deliver b e is = ap (λ t. cond t (Data time entry.value) Between ∷ []) (e ∙ is)
-parts_of_own item time entry (GapDeliver cause) b e is = ap (λ t. cond t GapPart Between ∷ cond t (Data time entry.value) Between ∷ []) (e ∙ is)
+parts_of_own item time entry Deliver b e is = ap (λ t. cond t (DataLine time entry.value) OtherLine ∷ []) (e ∙ is)
+parts_of_own item time entry (GapDeliver cause) b e is = ap (λ t. cond t GapLine OtherLine ∷ cond t (DataLine time entry.value) OtherLine ∷ []) (e ∙ is)
 
 pub parts_of_other : (i item : ℕ) (time : ℤ) (entry : Arrived) (verdict : Verdict) → (i == item) ≡ false
     → parts_of item (timed_lines i time entry verdict) ≡ other_parts verdict
 parts_of_other i item time entry Nothing e = refl
-parts_of_other i item time entry Deliver e = ap (λ t. cond t (Data time entry.value) Between ∷ []) e
-parts_of_other i item time entry (GapDeliver cause) e = ap (λ t. cond t GapPart Between ∷ cond t (Data time entry.value) Between ∷ []) e
+parts_of_other i item time entry Deliver e = ap (λ t. cond t (DataLine time entry.value) OtherLine ∷ []) e
+parts_of_other i item time entry (GapDeliver cause) e = ap (λ t. cond t GapLine OtherLine ∷ cond t (DataLine time entry.value) OtherLine ∷ []) e
 
 -- the places used are those up to the change of the time last delivered
 pub record IsLastAt (changes : List Change) (used : ℕ) (time : ℤ) : Type 0 where
@@ -127,7 +134,7 @@ on_to told cs used place time value h most skip = record {
 
 -- a change is delivered, with a gap line before it
 over_gap : (told : Bool) (cs : List Change) (used place : ℕ) (time : ℤ) (value : Seen) → IsChangeAt cs place time value → used ≤ place
-    → GoesOn told cs used (GapPart ∷ Data time value ∷ []) (Some time)
+    → GoesOn told cs used (GapLine ∷ DataLine time value ∷ []) (Some time)
 over_gap told cs used place time value h most = record {
   after = place + 1;
   walk = (place, h, most, skips_if told used place true (λ t. inr (inr refl)), (refl, refl));

@@ -87,5 +87,5 @@ entry_lines item entry last joint = lines_by item entry.time entry (verdict_of l
 abbrev pub entered : ℕ → ℕ → Arrived → LogState → LogState
 entered server item entry log =
     with_joint server item (joint_after entry.time (joint_at server item log))
-      (with_last item (later (last_at item log) entry.time)
-        (with_lines (entry_lines item entry (last_at item log) (joint_at server item log)) log))
+    (with_last item (later (last_at item log) entry.time)
+    (with_lines (entry_lines item entry (last_at item log) (joint_at server item log)) log))

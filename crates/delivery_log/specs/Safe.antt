@@ -7,63 +7,71 @@ use Rattle.set_model.specs.declared.line.Seen.TheVariants.{Whole}
 use Rattle.set_model.specs.declared.source.Change.{Change}
 use Rattle.set_model.specs.Source.{of_item}
 
--- what a line is to one item: its data line, its gap line, a line that stands between others, or one that is left out
+-- what a line of the log is to one item: its data line, its gap line, another line, or what a listener heard
 pub data Part : Type 0 where
-  Data : (time : ℤ) → (value : Seen) → Part
-  GapPart : Part
-  Between : Part
-  LeftOut : Part
+  DataLine : (time : ℤ) → (value : Seen) → Part
+  GapLine : Part
+  OtherLine : Part
+  HeardLine : Part
 
--- what a line is to an item: what a listener heard is left out
+-- what a line of the log is to an item
 abbrev pub part_of : ℕ → LogLine → Part
-part_of item (line.Delivered i time value status) = if i == item then Data time value else Between
-part_of item (line.Gap i cause) = if i == item then GapPart else Between
-part_of item (line.Switch from to) = Between
-part_of item (line.Ready server) = Between
-part_of item (line.Lost server) = Between
-part_of item (line.Unsupported server) = Between
-part_of item (line.Heard listener changes gaps) = LeftOut
-part_of item (line.Done changes) = Between
+part_of item (line.Delivered i time value status) = if i == item then DataLine time value else OtherLine
+part_of item (line.Gap i cause) = if i == item then GapLine else OtherLine
+part_of item (line.Switch from to) = OtherLine
+part_of item (line.Ready server) = OtherLine
+part_of item (line.Lost server) = OtherLine
+part_of item (line.Unsupported server) = OtherLine
+part_of item (line.Heard listener changes gaps) = HeardLine
+part_of item (line.Done changes) = OtherLine
 
 -- what the lines of a log are to an item
 abbrev pub parts_of : ℕ → List LogLine → List Part
 parts_of item log = map (part_of item) log
 
--- a data line of this time and value is the change at a place
+-- a data line of this time and value shows the change at a place
 pub record IsChangeAt (changes : List Change) (place : ℕ) (time : ℤ) (value : Seen) : Type 0 where
   pub change : Change
   pub here : slice_get changes place ≡ Some change
   pub time_is : time ≡ change.time
   pub value_is : value ≡ Whole change.value
 
--- where the first places up to `used` are behind the log, the next data line may show this place: it is the item's
--- first data line, or no place is skipped, or a gap line stands directly before it
+-- A data line may show this place: it is the item's first data line, or it shows the place that comes next, or a gap
+-- line of the item stands directly before it. `next` is one more than the place that the data line before shows, and 0
+-- where there is none.
 abbrev pub MaySkip : ℕ → ℕ → Bool → Type 0
-MaySkip used place gap = (used ≡ 0) ⊎ ((used ≡ place) ⊎ (gap ≡ true))
+MaySkip next place gap = (next ≡ 0) ⊎ ((next ≡ place) ⊎ (gap ≡ true))
 
--- An item's data lines are changes of the source in order, no place twice; where places are skipped between two of
--- them, a gap line of the item stands directly before the later one. `used` is one more than the place of the data line
--- before, 0 where there is none; `gap` says that a gap line stands directly before what follows.
+-- a data line of this time and value may come next: it shows the change at a place that was not passed, and skips none
+-- without a gap line
+pub record MayShow (changes : List Change) (next : ℕ) (gap : Bool) (place : ℕ) (time : ℤ) (value : Seen) : Type 0 where
+  pub shows : IsChangeAt changes place time value
+  pub forward : next ≤ place
+  pub skip : MaySkip next place gap
+
+-- An item's data lines are changes of the source in their order, no place twice; where places are skipped between two
+-- of them, a gap line of the item stands directly before the later one. `next` is as above; `gap` says that a gap line
+-- of the item stands directly before what follows. What a listener heard is not counted as a line between.
 abbrev pub SafeFrom : List Change → ℕ → Bool → List Part → Type 0
-SafeFrom changes used gap [] = Unit {0}
-SafeFrom changes used gap (Data time value ∷ rest) =
-    (place : ℕ) × IsChangeAt changes place time value × (used ≤ place) × MaySkip used place gap × SafeFrom changes (place + 1) false rest
-SafeFrom changes used gap (GapPart ∷ rest) = SafeFrom changes used true rest
-SafeFrom changes used gap (Between ∷ rest) = SafeFrom changes used false rest
-SafeFrom changes used gap (LeftOut ∷ rest) = SafeFrom changes used gap rest
+SafeFrom changes next gap [] = Unit {0}
+SafeFrom changes next gap (DataLine time value ∷ rest) =
+    (place : ℕ) × MayShow changes next gap place time value × SafeFrom changes (place + 1) false rest
+SafeFrom changes next gap (GapLine ∷ rest) = SafeFrom changes next true rest
+SafeFrom changes next gap (OtherLine ∷ rest) = SafeFrom changes next false rest
+SafeFrom changes next gap (HeardLine ∷ rest) = SafeFrom changes next gap rest
 
--- the log is safe for a source: for each item it delivers changes in order, and says where some may be missing
+-- the log is safe for a source: of each item it delivers changes in their order, and tells where some may be missing
 pub record Safe (source : List Change) (log : List LogLine) : Type 0 where
   pub each : (item : ℕ) → SafeFrom (of_item item source) 0 false (parts_of item log)
 
 -- an item's data lines are changes of the source in order, no place twice
 abbrev pub InOrderFrom : List Change → ℕ → List Part → Type 0
-InOrderFrom changes used [] = Unit {0}
-InOrderFrom changes used (Data time value ∷ rest) =
-    (place : ℕ) × IsChangeAt changes place time value × (used ≤ place) × InOrderFrom changes (place + 1) rest
-InOrderFrom changes used (GapPart ∷ rest) = InOrderFrom changes used rest
-InOrderFrom changes used (Between ∷ rest) = InOrderFrom changes used rest
-InOrderFrom changes used (LeftOut ∷ rest) = InOrderFrom changes used rest
+InOrderFrom changes next [] = Unit {0}
+InOrderFrom changes next (DataLine time value ∷ rest) =
+    (place : ℕ) × IsChangeAt changes place time value × (next ≤ place) × InOrderFrom changes (place + 1) rest
+InOrderFrom changes next (GapLine ∷ rest) = InOrderFrom changes next rest
+InOrderFrom changes next (OtherLine ∷ rest) = InOrderFrom changes next rest
+InOrderFrom changes next (HeardLine ∷ rest) = InOrderFrom changes next rest
 
 -- the log delivers each item's changes in order
 pub record InOrder (source : List Change) (log : List LogLine) : Type 0 where

@@ -3,13 +3,11 @@ ghost use Rattle.set_model.specs.declared.line.GapCause.TheVariants.{Late};
 ghost use Rattle.delivery_log.specs.declared.rule.Joint.TheVariants.{Open};
 ghost use Rattle.delivery_log.specs.Log.{Covers, data_line, entered, joint_at, late_joints, lines_by, new_log, noted, with_joint};
 
+use crate::rule::{Joint, Verdict, has_overflow, judge, later};
+use set_model::{Arrived, GapCause, LogLine};
 use std::alloc::Global;
 use std::marker::Model;
-
-use set_model::{Arrived, GapCause, LogLine};
 use ua_base::OutOfMemory;
-
-use crate::rule::{Joint, Verdict, has_overflow, judge, later};
 
 /// The joints of one server, one for each item.
 #[derive(Debug, Drop)]
@@ -51,14 +49,6 @@ impl Joints {
     }
 }
 
-/// The client's log: its lines, and what the rule needs of what was delivered.
-#[derive(Debug, Drop)]
-pub struct Log {
-    lasts: Vec<Option<i64>>,
-    joints: Vec<Joints>,
-    lines: Vec<LogLine>,
-}
-
 /// The joints of all servers before anything came.
 fn late_joints(alloc: Global, servers: u8, items: u8) -> Result<Vec<Joints>, OutOfMemory>
     ensures { IfOk result (λ joints. joints.items ≡ late_joints servers items) }
@@ -71,7 +61,13 @@ fn late_joints(alloc: Global, servers: u8, items: u8) -> Result<Vec<Joints>, Out
 }
 
 /// The lines that an entry of this time gains by the verdict on it, after those that are there.
-fn push_lines(alloc: Global, lines: &mut Vec<LogLine>, item: u8, entry: &Arrived, verdict: Verdict) -> Result<(), OutOfMemory>
+fn push_lines(
+    alloc: Global,
+    lines: &mut Vec<LogLine>,
+    item: u8,
+    entry: &Arrived,
+    verdict: Verdict,
+) -> Result<(), OutOfMemory>
     ensures ok { OnOk result (lines.new.items ≡ lines.old.items ++ lines_by item entry.now.time entry.now verdict) }
     ensures err { OnErr result (lines.new.items ≡ lines.old.items) }
 {
@@ -95,15 +91,34 @@ fn data_line(alloc: Global, item: u8, time: i64, entry: &Arrived) -> Result<LogL
     ensures { IfOk result (λ line. line ≡ data_line item time entry.now) }
 {
     let value = entry.value.copy(alloc)?;
-    Ok(LogLine::Delivered { item, time, value, status: entry.status })
+    Ok(LogLine::Delivered {
+        item,
+        time,
+        value,
+        status: entry.status,
+    })
 }
 
-fn push_data(alloc: Global, lines: &mut Vec<LogLine>, item: u8, time: i64, entry: &Arrived) -> Result<(), OutOfMemory>
+fn push_data(
+    alloc: Global,
+    lines: &mut Vec<LogLine>,
+    item: u8,
+    time: i64,
+    entry: &Arrived,
+) -> Result<(), OutOfMemory>
     ensures ok { OnOk result (lines.new.items ≡ lines.old.items ++ data_line item time entry.now ∷ []) }
     ensures err { OnErr result (lines.new.items ≡ lines.old.items) }
 {
     lines.push(data_line(alloc, item, time, entry)?)?;
     Ok(())
+}
+
+/// The client's log: its lines, and what the rule needs of what was delivered.
+#[derive(Debug, Drop)]
+pub struct Log {
+    lasts: Vec<Option<i64>>,
+    joints: Vec<Joints>,
+    lines: Vec<LogLine>,
 }
 
 impl Model for Log {
@@ -125,7 +140,11 @@ impl Log {
     {
         let lasts = vec![in alloc; None; usize::from(items)]?;
         let joints = late_joints(alloc, servers, items)?;
-        Ok(Log { lasts, joints, lines: Vec::new(alloc) })
+        Ok(Log {
+            lasts,
+            joints,
+            lines: Vec::new(alloc),
+        })
     }
 
     /// How many items it is of.
@@ -152,14 +171,25 @@ impl Log {
     }
 
     /// Enters an entry of a server and item, both numbered from 1, by the rule of `judge`.
-    pub fn enter(&mut self, alloc: Global, server: u8, item: u8, entry: &Arrived) -> Result<(), OutOfMemory>
+    pub fn enter(
+        &mut self,
+        alloc: Global,
+        server: u8,
+        item: u8,
+        entry: &Arrived,
+    ) -> Result<(), OutOfMemory>
         requires { Covers server item self.old }
         ensures ok { OnOk result (self.new ≡ entered server item entry.now self.old) }
         ensures err { OnErr result (self.new ≡ self.old) }
     {
         let place = usize::from(item - 1);
         let last = self.lasts[place];
-        let (verdict, joint) = judge(last, self.joint(server, item), entry.time, has_overflow(entry.status));
+        let (verdict, joint) = judge(
+            last,
+            self.joint(server, item),
+            entry.time,
+            has_overflow(entry.status),
+        );
         push_lines(alloc, &mut self.lines, item, entry, verdict)?;
         self.lasts[place] = later(last, entry.time);
         self.set_joint(server, item, joint);

@@ -11,27 +11,23 @@ ghost use Rattle.delivery_log.specs.WellFed.{AreNotes, IsFed, WellFed};
 /// the time of each item's last data line.
 pub fn log_stands_for_its_history()
     ensures { (servers items : ℕ) (history : List Act) → AreWithin servers items history → StandsFor servers items history (log_of servers items history) }
-{
-}
+{}
 
 /// The law of the log: where each entry is a change of the source, and is linked to the one before it of its server
 /// and item wherever it finds their joint `Joined`, the lines are safe. So each item's data lines are its changes in
 /// order, and no change is missing between two of them without a gap line directly before the later one.
 pub fn well_fed_is_safe()
     ensures { (source : List Change) (history : List Act) → IsSource source → WellFed source history → Safe source (lines_of history) }
-{
-}
+{}
 
 /// Where each entry is a change of the source, each item's data lines are its changes in order, no place twice. This
 /// asks nothing of joints.
 pub fn fed_is_in_order()
     ensures { (source : List Change) (history : List Act) → IsSource source → IsFed source history → InOrder source (lines_of history) }
-{
-}
+{}
 
 /// Each gap line stands before the data line of the entry that it was written for, and tells the cause that the joint
 /// of that entry's server and item had, or overflow where the joint was `Joined` and the entry has the overflow bit.
 pub fn gaps_have_true_causes()
     ensures { (history : List Act) → AreNotes history → Caused history (lines_of history) }
-{
-}
+{}

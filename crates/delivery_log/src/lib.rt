@@ -4,6 +4,8 @@
 mod client_log;
 mod laws;
 mod rule;
+#[cfg(test)]
+mod tests;
 
 pub use client_log::Log;
 pub use laws::{

@@ -89,12 +89,7 @@ fn verdict_of(last: Option<i64>, joint: Joint, time: Option<i64>, marked: bool) 
 /// The rule of the log: what an entry of this source time gains, and the joint after it. `last` is the time of the
 /// item's last data line, `joint` that of the entry's server and item, and `marked` says that the entry's status has
 /// the overflow bit.
-pub fn judge(
-    last: Option<i64>,
-    joint: Joint,
-    time: Option<i64>,
-    marked: bool,
-) -> (Verdict, Joint)
+pub fn judge(last: Option<i64>, joint: Joint, time: Option<i64>, marked: bool) -> (Verdict, Joint)
     ensures { result ≡ judged last joint time marked }
 {
     (
