@@ -1,0 +1,4 @@
+pub mod WordLemmas
+pub mod PastLemmas
+pub mod FaultLemmas
+pub mod CapLemmas

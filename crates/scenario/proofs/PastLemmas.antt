@@ -1,0 +1,280 @@
+-- What the lines say, with one line more.
+use Rattle.std.proofs.Common.{◌≡◌, ◌≢◌, ◌==◌, ℕ, ◌+◌, ◌-◌, ◌<◌, ◌≤◌, List, [], ◌∷◌, ◌++◌, Bool, true, false, cond, Some, length, reverse, refl, sym, ◌∙◌, ap, subst, arith, slice_index_or}
+use Rattle.std.specs.Prelude.{find, filter, slice_set, ◌||◌}
+use Rattle.std.proofs.lemmas.Bool.Decides.{nat_tests}
+use Rattle.std.proofs.lemmas.List.{reverse-append, reverse-reverse, append-nil, length-append, get_or-set_other}
+use Rattle.std.proofs.lemmas.List.Concat.{flat_map-append}
+use Rattle.std.proofs.lemmas.List.Folds.{list_any-append}
+use Rattle.std.proofs.lemmas.Grind.{get_or-set_at}
+use Rattle.std.proofs.lemmas.List.Elements.{filter-append}
+use Rattle.set_model.specs.declared.source.Change.{Change}
+use Rattle.scenario.specs.declared.line.Line.{Line}
+use Rattle.scenario.specs.declared.line.Line.TheVariants as line
+use Rattle.scenario.specs.declared.tally.Life.{Life}
+use Rattle.scenario.specs.declared.tally.Tally.{Tally}
+use Rattle.scenario.specs.Past.{servers_of, items_of, servers_in, items_in, change_of, changes_in, starts, turns, runs_after, is_running, boot_of, ends, has_ended, listens, listens_in, ids_after, attached_before, attached_in}
+use Rattle.scenario.specs.Reading.{fresh, life_of, tally_after, Recalls, MayFollow}
+
+pub changes_in-more : (ls : List Line) (l : Line) → changes_in (ls ++ l ∷ []) ≡ changes_in ls ++ change_of l
+changes_in-more ls l = flat_map-append change_of ls (l ∷ []) ∙ ap (λ cs. changes_in ls ++ cs) (append-nil (change_of l))
+
+-- looking back from one line more begins with that line
+reverse-more : (ls : List Line) (l : Line) → reverse (ls ++ l ∷ []) ≡ l ∷ reverse ls
+reverse-more ls l = reverse-append ls (l ∷ [])
+
+pub is_running-more : (server : ℕ) (ls : List Line) (l : Line)
+    → is_running server (ls ++ l ∷ []) ≡ runs_after (cond (turns server l) (Some l) (find (λ m. turns server m) (reverse ls)))
+is_running-more server ls l = ap (λ back. runs_after (find (λ m. turns server m) back)) (reverse-more ls l)
+
+count_one : (b : Bool) (l : Line) (ls : List Line) → length (ls ++ cond b (l ∷ []) []) ≡ length ls + cond b 1 0
+count_one true l ls = length-append ls (l ∷ [])
+count_one false l ls = length-append ls []
+
+pub boot_of-more : (server : ℕ) (ls : List Line) (l : Line) → boot_of server (ls ++ l ∷ []) ≡ boot_of server ls + cond (starts server l) 1 0
+boot_of-more server ls l =
+    let e = ap length (filter-append (λ m. starts server m) ls (l ∷ [])) ∙ count_one (starts server l) l (filter (λ m. starts server m) ls) in
+    ap (λ n. 1 + n) e ∙ omega arith
+
+pub listens_in-more : (ls : List Line) (l : Line) → listens_in (ls ++ l ∷ []) ≡ listens_in ls + cond (listens l) 1 0
+listens_in-more ls l = ap length (filter-append listens ls (l ∷ [])) ∙ count_one (listens l) l (filter listens ls)
+
+or_false : (a b : Bool) → (a || (b || false)) ≡ cond b true a
+or_false true true = refl
+or_false true false = refl
+or_false false true = refl
+or_false false false = refl
+
+pub has_ended-more : (ls : List Line) (l : Line) → has_ended (ls ++ l ∷ []) ≡ cond (ends l) true (has_ended ls)
+has_ended-more ls l = list_any-append ends ls (l ∷ []) ∙ or_false (has_ended ls) (ends l)
+
+pub attached_in-more : (ls : List Line) (l : Line) → attached_in (ls ++ l ∷ []) ≡ ids_after (listens_in ls + 1) (attached_in ls) l
+attached_in-more ls l =
+    ap attached_before (reverse-more ls l) ∙ ap (λ ms. ids_after (listens_in ms + 1) (attached_in ls) l) (reverse-reverse ls)
+
+-- the first line alone says the servers, the second the items
+pub servers_in-more : (ls : List Line) (l : Line) → servers_of l ≡ 0 → servers_in (ls ++ l ∷ []) ≡ servers_in ls
+servers_in-more [] l h = h
+servers_in-more (m ∷ ls) l h = refl
+
+pub items_in-more : (ls : List Line) (l : Line) → items_of l ≡ 0 → items_in (ls ++ l ∷ []) ≡ items_in ls
+items_in-more [] l h = refl
+items_in-more (m ∷ []) l h = h
+items_in-more (m ∷ (n ∷ ls)) l h = refl
+
+servers_first : (ls : List Line) (l : Line) → length ls ≡ 0 → servers_in (ls ++ l ∷ []) ≡ servers_of l
+servers_first [] l h = refl
+servers_first (m ∷ ls) l h = absurd (omega arith)
+
+items_second : (ls : List Line) (l : Line) → length ls ≡ 1 → items_in (ls ++ l ∷ []) ≡ items_of l
+items_second [] l h = absurd (omega arith)
+items_second (m ∷ []) l h = refl
+items_second (m ∷ (n ∷ ls)) l h = absurd (omega arith)
+
+-- a life that no line changes, and those that a stop and a start change
+same_life : (server : ℕ) (ls : List Line) (l : Line) → turns server l ≡ false → starts server l ≡ false → life_of server (ls ++ l ∷ []) ≡ life_of server ls
+same_life server ls l t s =
+    let P : Bool → ℕ → Life = λ running boot. record { running = running; boot = boot } in
+    let r : is_running server (ls ++ l ∷ []) ≡ is_running server ls =
+    is_running-more server ls l ∙ ap (λ b. runs_after (cond b (Some l) (find (λ m. turns server m) (reverse ls)))) t in
+    let n : boot_of server (ls ++ l ∷ []) ≡ boot_of server ls =
+    boot_of-more server ls l ∙ ap (λ b. boot_of server ls + cond b 1 0) s ∙ omega arith in
+    ap (λ running. P running (boot_of server (ls ++ l ∷ []))) r ∙ ap (λ boot. P (is_running server ls) boot) n
+
+stopped_life : (server other : ℕ) (ls : List Line) → (other == server) ≡ true
+    → life_of server (ls ++ line.Stop other ∷ []) ≡ record { running = false; boot = boot_of server ls }
+stopped_life server other ls e =
+    let P : Bool → ℕ → Life = λ running boot. record { running = running; boot = boot } in
+    let r : is_running server (ls ++ line.Stop other ∷ []) ≡ false =
+    is_running-more server ls (line.Stop other) ∙ ap (λ b. runs_after (cond b (Some (line.Stop other)) (find (λ m. turns server m) (reverse ls)))) e in
+    let n : boot_of server (ls ++ line.Stop other ∷ []) ≡ boot_of server ls = boot_of-more server ls (line.Stop other) ∙ omega arith in
+    ap (λ running. P running (boot_of server (ls ++ line.Stop other ∷ []))) r ∙ ap (λ boot. P false boot) n
+
+started_life : (server other : ℕ) (ls : List Line) → (other == server) ≡ true
+    → life_of server (ls ++ line.Start other ∷ []) ≡ record { running = true; boot = boot_of server ls + 1 }
+started_life server other ls e =
+    let P : Bool → ℕ → Life = λ running boot. record { running = running; boot = boot } in
+    let r : is_running server (ls ++ line.Start other ∷ []) ≡ true =
+    is_running-more server ls (line.Start other) ∙ ap (λ b. runs_after (cond b (Some (line.Start other)) (find (λ m. turns server m) (reverse ls)))) e in
+    let n : boot_of server (ls ++ line.Start other ∷ []) ≡ boot_of server ls + 1 =
+    boot_of-more server ls (line.Start other) ∙ ap (λ b. boot_of server ls + cond b 1 0) e in
+    ap (λ running. P running (boot_of server (ls ++ line.Start other ∷ []))) r ∙ ap (λ boot. P true boot) n
+
+-- the lives of eight servers are those that the lines say
+abbrev pub AreLives : List Life → List Line → Type 0
+AreLives lives ls = (server : ℕ) → server < 8 → slice_index_or lives server fresh ≡ life_of (server + 1) ls
+
+lives_kept : (lives : List Life) (ls : List Line) (l : Line) → AreLives lives ls → ((server : ℕ) → turns server l ≡ false) → ((server : ℕ) → starts server l ≡ false)
+    → AreLives lives (ls ++ l ∷ [])
+lives_kept lives ls l h t s = λ server under. h server under ∙ sym (same_life (server + 1) ls l (t (server + 1)) (s (server + 1)))
+
+lives_set_at : (lives : List Life) (ls : List Line) (l : Line) (other : ℕ) (life : Life) → length lives ≡ 8 → 1 ≤ other → other ≤ 8 → AreLives lives ls
+    → life ≡ life_of other (ls ++ l ∷ [])
+    → ((server : ℕ) → (other == server) ≡ false → (turns server l ≡ false) × (starts server l ≡ false))
+    → (server : ℕ) → server < 8 → (b : Bool) → (other == server + 1) ≡ b
+    → slice_index_or (slice_set lives (other - 1) life) server fresh ≡ life_of (server + 1) (ls ++ l ∷ [])
+lives_set_at lives ls l other life long low high h is apart server under true e =
+    let same : server ≡ other - 1 = grind (arith, nat_tests) in
+    let here : other ≡ server + 1 = grind (arith, nat_tests) in
+    get_or-set_at lives (other - 1) server life fresh same (omega arith) ∙ is ∙ ap (λ n. life_of n (ls ++ l ∷ [])) here
+lives_set_at lives ls l other life long low high h is apart server under false e =
+    let away : server ≢ other - 1 = grind (arith, nat_tests) in
+    get_or-set_other lives (other - 1) server life fresh away ∙ h server under
+    ∙ sym (same_life (server + 1) ls l (apart (server + 1) e).0 (apart (server + 1) e).1)
+
+-- the life of a server in the table
+life_there : (lives : List Life) (ls : List Line) (server : ℕ) → AreLives lives ls → 1 ≤ server → server ≤ 8
+    → slice_index_or lives (server - 1) fresh ≡ life_of server ls
+life_there lives ls server h low high =
+    let e : server - 1 + 1 ≡ server = omega arith in
+    h (server - 1) (omega arith) ∙ ap (λ n. life_of n ls) e
+
+pub lives_stopped : (lives : List Life) (ls : List Line) (other : ℕ) → length lives ≡ 8 → 1 ≤ other → other ≤ 8 → AreLives lives ls
+    → AreLives (slice_set lives (other - 1) (record { running = false; boot = (slice_index_or lives (other - 1) fresh).boot })) (ls ++ line.Stop other ∷ [])
+lives_stopped lives ls other long low high h = λ server under.
+    let P : ℕ → Life = λ boot. record { running = false; boot = boot } in
+    lives_set_at lives ls (line.Stop other) other _ long low high h
+    (ap (λ life. P life.boot) (life_there lives ls other h low high) ∙ sym (stopped_life other other ls (grind (arith, nat_tests))))
+    (λ s e. (e, refl)) server under _ refl
+
+pub lives_started : (lives : List Life) (ls : List Line) (other : ℕ) → length lives ≡ 8 → 1 ≤ other → other ≤ 8 → AreLives lives ls
+    → AreLives (slice_set lives (other - 1) (record { running = true; boot = (slice_index_or lives (other - 1) fresh).boot + 1 })) (ls ++ line.Start other ∷ [])
+lives_started lives ls other long low high h = λ server under.
+    let P : ℕ → Life = λ boot. record { running = true; boot = boot + 1 } in
+    lives_set_at lives ls (line.Start other) other _ long low high h
+    (ap (λ life. P life.boot) (life_there lives ls other h low high) ∙ sym (started_life other other ls (grind (arith, nat_tests))))
+    (λ s e. (e, e)) server under _ refl
+
+ids_of : (n m : ℕ) (xs ys : List ℕ) (l : Line) → n ≡ m → xs ≡ ys → ids_after (n + 1) xs l ≡ ids_after (m + 1) ys l
+ids_of n m xs ys l e f = ap (λ k. ids_after (k + 1) xs l) e ∙ ap (λ zs. ids_after (m + 1) zs l) f
+
+-- what of a table has to be shown for one line more
+record Told (ls : List Line) (t : Tally) (l : Line) : Type 0 where
+  servers : t.servers ≡ servers_in (ls ++ l ∷ [])
+  few_servers : t.servers ≤ 8
+  items : t.items ≡ items_in (ls ++ l ∷ [])
+  few_items : t.items ≤ 64
+  lives : AreLives t.lives (ls ++ l ∷ [])
+  heard : t.listens ≡ listens_in (ls ++ l ∷ [])
+  ended : t.ended ≡ has_ended (ls ++ l ∷ [])
+
+recalls_by : (ls : List Line) (cs : List Change) (t u : Tally) (ids : List ℕ) (l : Line) → Recalls ls cs t ids → Told ls u l
+    → Recalls (ls ++ l ∷ []) (cs ++ change_of l) u (ids_after (t.listens + 1) ids l)
+recalls_by ls cs t u ids l h told = record {
+  changes_are = ap (λ ds. ds ++ change_of l) h.changes_are ∙ sym (changes_in-more ls l);
+  servers_are = told.servers;
+  few_servers = told.few_servers;
+  few_items = told.few_items;
+  items_are = told.items;
+  lives_are = told.lives;
+  listens_are = told.heard;
+  ended_is = told.ended;
+  attached_are = ids_of _ _ _ _ l h.listens_are h.attached_are ∙ sym (attached_in-more ls l);
+}
+
+-- a line that says nothing of what the table has
+told_same : (ls : List Line) (cs : List Change) (t : Tally) (ids : List ℕ) (l : Line) → Recalls ls cs t ids
+    → servers_of l ≡ 0 → items_of l ≡ 0 → ((server : ℕ) → turns server l ≡ false) → ((server : ℕ) → starts server l ≡ false) → listens l ≡ false → ends l ≡ false
+    → Told ls t l
+told_same ls cs t ids l h s i turn start listen end = record {
+  servers = h.servers_are ∙ sym (servers_in-more ls l s);
+  few_servers = h.few_servers;
+  few_items = h.few_items;
+  items = h.items_are ∙ sym (items_in-more ls l i);
+  lives = lives_kept t.lives ls l h.lives_are turn start;
+  heard = let e : listens_in (ls ++ l ∷ []) ≡ listens_in ls + 0 = listens_in-more ls l ∙ ap (λ b. listens_in ls + cond b 1 0) listen in
+      let k : t.listens ≡ listens_in ls = h.listens_are in omega arith;
+  ended = h.ended_is ∙ sym (has_ended-more ls l ∙ ap (λ b. cond b true (has_ended ls)) end);
+}
+
+-- what is recalled stays what the lines say
+pub recalls_more : (ls : List Line) (cs : List Change) (t : Tally) (ids : List ℕ) (l : Line) → length t.lives ≡ 8 → Recalls ls cs t ids → MayFollow ls l
+    → Recalls (ls ++ l ∷ []) (cs ++ change_of l) (tally_after t l) (ids_after (t.listens + 1) ids l)
+recalls_more ls cs t ids (line.Set mode servers) long h may =
+    let l : Line = line.Set mode servers in
+    recalls_by ls cs t _ ids l h (record {
+      servers = sym (servers_first ls l may.0);
+      few_servers = may.1;
+      few_items = h.few_items;
+      items = h.items_are ∙ sym (items_in-more ls l refl);
+      lives = lives_kept t.lives ls l h.lives_are (λ _. refl) (λ _. refl);
+      heard = let e : listens_in (ls ++ line.Set mode servers ∷ []) ≡ listens_in ls + 0 = listens_in-more ls (line.Set mode servers) in let k : t.listens ≡ listens_in ls = h.listens_are in omega arith;
+      ended = h.ended_is ∙ sym (has_ended-more ls l);
+    })
+recalls_more ls cs t ids (line.Items items queue) long h may =
+    let l : Line = line.Items items queue in
+    recalls_by ls cs t _ ids l h (record {
+      servers = h.servers_are ∙ sym (servers_in-more ls l refl);
+      few_servers = h.few_servers;
+      few_items = may.1;
+      items = sym (items_second ls l may.0);
+      lives = lives_kept t.lives ls l h.lives_are (λ _. refl) (λ _. refl);
+      heard = let e : listens_in (ls ++ line.Items items queue ∷ []) ≡ listens_in ls + 0 = listens_in-more ls (line.Items items queue) in let k : t.listens ≡ listens_in ls = h.listens_are in omega arith;
+      ended = h.ended_is ∙ sym (has_ended-more ls l);
+    })
+recalls_more ls cs t ids (line.Change change) long h may =
+    recalls_by ls cs t _ ids (line.Change change) h (told_same ls cs t ids (line.Change change) h refl refl (λ _. refl) (λ _. refl) refl refl)
+recalls_more ls cs t ids (line.Feed server count) long h may =
+    recalls_by ls cs t _ ids (line.Feed server count) h (told_same ls cs t ids (line.Feed server count) h refl refl (λ _. refl) (λ _. refl) refl refl)
+recalls_more ls cs t ids (line.Take server count) long h may =
+    recalls_by ls cs t _ ids (line.Take server count) h (told_same ls cs t ids (line.Take server count) h refl refl (λ _. refl) (λ _. refl) refl refl)
+recalls_more ls cs t ids (line.Unlisten id) long h may =
+    recalls_by ls cs t _ ids (line.Unlisten id) h (told_same ls cs t ids (line.Unlisten id) h refl refl (λ _. refl) (λ _. refl) refl refl)
+recalls_more ls cs t ids (line.Stop server) long h may =
+    let l : Line = line.Stop server in
+    let under : server ≤ 8 = let e : t.servers ≡ servers_in ls = h.servers_are in let f : t.servers ≤ 8 = h.few_servers in omega arith in
+    recalls_by ls cs t _ ids l h (record {
+      servers = h.servers_are ∙ sym (servers_in-more ls l refl);
+      few_servers = h.few_servers;
+      few_items = h.few_items;
+      items = h.items_are ∙ sym (items_in-more ls l refl);
+      lives = lives_stopped t.lives ls server long may.0 under h.lives_are;
+      heard = let e : listens_in (ls ++ line.Stop server ∷ []) ≡ listens_in ls + 0 = listens_in-more ls (line.Stop server) in let k : t.listens ≡ listens_in ls = h.listens_are in omega arith;
+      ended = h.ended_is ∙ sym (has_ended-more ls l);
+    })
+recalls_more ls cs t ids (line.Start server) long h may =
+    let l : Line = line.Start server in
+    let under : server ≤ 8 = let e : t.servers ≡ servers_in ls = h.servers_are in let f : t.servers ≤ 8 = h.few_servers in omega arith in
+    recalls_by ls cs t _ ids l h (record {
+      servers = h.servers_are ∙ sym (servers_in-more ls l refl);
+      few_servers = h.few_servers;
+      few_items = h.few_items;
+      items = h.items_are ∙ sym (items_in-more ls l refl);
+      lives = lives_started t.lives ls server long may.0 under h.lives_are;
+      heard = let e : listens_in (ls ++ line.Start server ∷ []) ≡ listens_in ls + 0 = listens_in-more ls (line.Start server) in let k : t.listens ≡ listens_in ls = h.listens_are in omega arith;
+      ended = h.ended_is ∙ sym (has_ended-more ls l);
+    })
+recalls_more ls cs t ids (line.Listen item) long h may =
+    let l : Line = line.Listen item in
+    recalls_by ls cs t _ ids l h (record {
+      servers = h.servers_are ∙ sym (servers_in-more ls l refl);
+      few_servers = h.few_servers;
+      few_items = h.few_items;
+      items = h.items_are ∙ sym (items_in-more ls l refl);
+      lives = lives_kept t.lives ls l h.lives_are (λ _. refl) (λ _. refl);
+      heard = let e : listens_in (ls ++ line.Listen item ∷ []) ≡ listens_in ls + 1 = listens_in-more ls (line.Listen item) in let k : t.listens ≡ listens_in ls = h.listens_are in omega arith;
+      ended = h.ended_is ∙ sym (has_ended-more ls l);
+    })
+recalls_more ls cs t ids line.End long h may =
+    recalls_by ls cs t _ ids line.End h (record {
+      servers = h.servers_are ∙ sym (servers_in-more ls line.End refl);
+      few_servers = h.few_servers;
+      few_items = h.few_items;
+      items = h.items_are ∙ sym (items_in-more ls line.End refl);
+      lives = lives_kept t.lives ls line.End h.lives_are (λ _. refl) (λ _. refl);
+      heard = let e : listens_in (ls ++ line.End ∷ []) ≡ listens_in ls + 0 = listens_in-more ls line.End in let k : t.listens ≡ listens_in ls = h.listens_are in omega arith;
+      ended = sym (has_ended-more ls line.End);
+    })
+
+recalls_at : (ls ks : List Line) (cs ds : List Change) (t u : Tally) (ids others : List ℕ) → ls ≡ ks → cs ≡ ds → t ≡ u → ids ≡ others → Recalls ls cs t ids → Recalls ks ds u others
+recalls_at ls ks cs ds t u ids others e f g i h =
+    let P : List Line → Type 0 = λ x. Recalls x ds u others in
+    let Q : List Change → Type 0 = λ x. Recalls ls x u others in
+    let R : Tally → Type 0 = λ x. Recalls ls cs x others in
+    let S : List ℕ → Type 0 = λ x. Recalls ls cs t x in
+    subst P e (subst Q f (subst R g (subst S i h)))
+
+-- the same, of what a step leaves
+pub recalls_then : (ls ks : List Line) (cs ds : List Change) (t u : Tally) (ids others : List ℕ) (l : Line) → length t.lives ≡ 8 → Recalls ls cs t ids → MayFollow ls l
+    → ks ≡ ls ++ l ∷ [] → ds ≡ cs ++ change_of l → u ≡ tally_after t l → others ≡ ids_after (t.listens + 1) ids l → Recalls ks ds u others
+recalls_then ls ks cs ds t u ids others l long h may e f g i =
+    recalls_at _ _ _ _ _ _ _ _ (sym e) (sym f) (sym g) (sym i) (recalls_more ls cs t ids l long h may)

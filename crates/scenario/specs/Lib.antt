@@ -1,0 +1,7 @@
+pub mod Texts
+pub mod Words
+pub mod Grammar
+pub mod Past
+pub mod Faults
+pub mod Reading
+pub mod Scenario

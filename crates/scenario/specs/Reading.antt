@@ -1,0 +1,71 @@
+-- What a reader recalls of the lines before, so that no line needs to be looked at again.
+use Rattle.std.specs.Prelude.{◌≡◌, ℕ, ◌+◌, ◌-◌, ◌<◌, ◌≤◌, List, [], ◌∷◌, ◌++◌, true, false, Result, Ok, Err, length, slice_index_or, slice_set, replicate}
+use Rattle.set_model.specs.declared.source.Change.{Change}
+use Rattle.scenario.specs.declared.line.Line.{Line}
+use Rattle.scenario.specs.declared.line.Line.TheVariants as line
+use Rattle.scenario.specs.declared.fault.FaultKind.{FaultKind}
+use Rattle.scenario.specs.declared.fault.ReadError.{ReadError}
+use Rattle.scenario.specs.declared.fault.ReadError.TheVariants as errors
+use Rattle.scenario.specs.declared.tally.Life.{Life}
+use Rattle.scenario.specs.declared.tally.Tally.{Tally}
+use Rattle.scenario.specs.Past.{servers_in, items_in, changes_in, is_running, boot_of, has_ended, listens_in, attached_in}
+
+-- a server before any line speaks of it
+abbrev pub fresh : Life
+fresh = record { running = true; boot = 1 }
+
+abbrev pub life_of : ℕ → List Line → Life
+life_of server lines = record { running = is_running server lines; boot = boot_of server lines }
+
+abbrev pub life_in : Tally → ℕ → Life
+life_in tally server = slice_index_or tally.lives (server - 1) fresh
+
+abbrev pub with_life : Tally → ℕ → Life → Tally
+with_life tally server life = record tally { lives = slice_set tally.lives (server - 1) life }
+
+abbrev pub blank_tally : Tally
+blank_tally = record { servers = 0; items = 0; lives = replicate 8 fresh; listens = 0; ended = false }
+
+-- what is recalled after one line more
+abbrev pub tally_after : Tally → Line → Tally
+tally_after tally (line.Set mode servers) = record tally { servers = servers }
+tally_after tally (line.Items items queue) = record tally { items = items }
+tally_after tally (line.Stop server) = with_life tally server (record { running = false; boot = (life_in tally server).boot })
+tally_after tally (line.Start server) = with_life tally server (record { running = true; boot = (life_in tally server).boot + 1 })
+tally_after tally (line.Listen item) = record tally { listens = tally.listens + 1 }
+tally_after tally line.End = record tally { ended = true }
+tally_after tally _ = tally
+
+-- what is recalled has room for the line
+abbrev pub HasRoom : Tally → Line → Type 0
+HasRoom tally (line.Stop server) = (1 ≤ server) × (server ≤ 8)
+HasRoom tally (line.Start server) = (1 ≤ server) × (server ≤ 8) × ((life_in tally server).boot < 65535)
+HasRoom tally (line.Listen item) = tally.listens < 255
+HasRoom tally _ = Unit {0}
+
+-- what is recalled is what the lines say
+pub record Recalls (lines : List Line) (changes : List Change) (tally : Tally) (attached : List ℕ) : Type 0 where
+  pub changes_are : changes ≡ changes_in lines
+  pub servers_are : tally.servers ≡ servers_in lines
+  pub few_servers : tally.servers ≤ 8
+  pub items_are : tally.items ≡ items_in lines
+  pub few_items : tally.items ≤ 64
+  pub lives_are : (server : ℕ) → server < 8 → slice_index_or tally.lives server fresh ≡ life_of (server + 1) lines
+  pub listens_are : tally.listens ≡ listens_in lines
+  pub ended_is : tally.ended ≡ has_ended lines
+  pub attached_are : attached ≡ attached_in lines
+
+-- a line that may follow these
+abbrev pub MayFollow : List Line → Line → Type 0
+MayFollow lines (line.Set mode servers) = (length lines ≡ 0) × (servers ≤ 8)
+MayFollow lines (line.Items items queue) = (length lines ≡ 1) × (items ≤ 64)
+MayFollow lines (line.Stop server) = (1 ≤ server) × (server ≤ servers_in lines)
+MayFollow lines (line.Start server) = (1 ≤ server) × (server ≤ servers_in lines) × (boot_of server lines < 65535)
+MayFollow lines (line.Listen item) = listens_in lines < 255
+MayFollow lines _ = Unit {0}
+
+-- what a step answers and leaves, where the line's verdict is known; after want of memory nothing changed
+abbrev pub Steps : Result Line FaultKind → List Line → Result Line ReadError → List Line → Type 0
+Steps judged old (Ok l) new = (judged ≡ Ok l) × (new ≡ old ++ l ∷ [])
+Steps judged old (Err (errors.Fault fault)) new = (judged ≡ Err fault.kind) × (fault.line ≡ length old + 1) × (new ≡ old)
+Steps judged old (Err errors.OutOfMemory) new = new ≡ old

@@ -1,0 +1,59 @@
+-- The exact texts of lines and faults.
+use Rattle.std.specs.Prelude.{ℕ, List, ◌++◌, codes}
+use Rattle.std.specs.List.{flat_map}
+use Rattle.std.specs.Fmt.{decimal, signed_decimal}
+use Rattle.ua_base.specs.declared.modes.SetMode.{SetMode}
+use Rattle.ua_base.specs.declared.modes.SetMode.TheVariants.{Direct, Hot, Warm, Cold}
+use Rattle.set_model.specs.declared.source.Change.{Change}
+use Rattle.scenario.specs.declared.line.Line.{Line}
+use Rattle.scenario.specs.declared.line.Line.TheVariants as line
+use Rattle.scenario.specs.declared.fault.FaultKind.{FaultKind}
+use Rattle.scenario.specs.declared.fault.FaultKind.TheVariants as kind
+use Rattle.scenario.specs.declared.fault.ScenarioFault.{ScenarioFault}
+
+abbrev pub mode_text : SetMode → List ℕ
+mode_text Direct = codes "direct"
+mode_text Hot = codes "hot"
+mode_text Warm = codes "warm"
+mode_text Cold = codes "cold"
+
+abbrev pub change_text : Change → List ℕ
+change_text change = codes "change " ++ decimal change.item ++ codes " " ++ signed_decimal change.time ++ codes " " ++ signed_decimal change.value
+
+-- a line without its line feed
+abbrev pub line_text : Line → List ℕ
+line_text (line.Set mode servers) = codes "set " ++ mode_text mode ++ codes " " ++ decimal servers
+line_text (line.Items items queue) = codes "items " ++ decimal items ++ codes " queue " ++ decimal queue
+line_text (line.Change change) = change_text change
+line_text (line.Feed server count) = codes "feed " ++ decimal server ++ codes " " ++ decimal count
+line_text (line.Take server count) = codes "take " ++ decimal server ++ codes " " ++ decimal count
+line_text (line.Stop server) = codes "stop " ++ decimal server
+line_text (line.Start server) = codes "start " ++ decimal server
+line_text (line.Listen item) = codes "listen " ++ decimal item
+line_text (line.Unlisten id) = codes "unlisten " ++ decimal id
+line_text line.End = codes "end"
+
+-- lines, each with its line feed
+abbrev pub written : List Line → List ℕ
+written lines = flat_map (λ l. line_text l ++ codes "\n") lines
+
+abbrev pub kind_text : FaultKind → List ℕ
+kind_text kind.MissingSet = codes "missing set"
+kind_text kind.TooLong = codes "too long"
+kind_text kind.BadLine = codes "bad line"
+kind_text kind.OutOfRange = codes "out of range"
+kind_text kind.ModeNotBuilt = codes "mode not built"
+kind_text kind.NoSuchServer = codes "no such server"
+kind_text kind.NoSuchItem = codes "no such item"
+kind_text kind.NotRunning = codes "not running"
+kind_text kind.AlreadyRunning = codes "already running"
+kind_text kind.TooManyStarts = codes "too many starts"
+kind_text kind.TooMany = codes "too many changes"
+kind_text kind.TimeNotRising = codes "time not rising"
+kind_text kind.SameValue = codes "same value"
+kind_text kind.NoListener = codes "no listener"
+kind_text kind.NoSuchListener = codes "no such listener"
+kind_text kind.NoEnd = codes "no end"
+
+abbrev pub fault_text : ScenarioFault → List ℕ
+fault_text fault = codes "line " ++ decimal fault.line ++ codes ": " ++ kind_text fault.kind

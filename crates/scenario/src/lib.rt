@@ -1,0 +1,16 @@
+//! The scenario language: lines that say what the servers of a set and their client do, one after another.
+#![tactic(auto)]
+
+mod fault;
+mod form;
+mod line;
+mod reader;
+mod tally;
+mod text;
+mod words;
+
+pub use fault::{FaultKind, ReadError, ScenarioFault};
+pub use form::Form;
+pub use line::Line;
+pub use reader::MOST_LINES;
+pub use text::read;
