@@ -6,3 +6,4 @@ pub mod Law
 pub mod Causes
 pub mod Kept
 pub mod KeptLaws
+pub mod ReadingLemmas

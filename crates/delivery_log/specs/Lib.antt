@@ -6,3 +6,4 @@ pub mod History
 pub mod Safe
 pub mod Caused
 pub mod WellFed
+pub mod Reading

@@ -50,7 +50,8 @@ IsFedAct source (Note line) = is_note line ≡ true
 -- these and this one are linked
 abbrev pub IsLinkedAct : List Change → Act → List Act → Type 0
 IsLinkedAct source (Enter server item entry) earlier =
-    (time : ℤ) → entry.time ≡ Some time → joint_of server item earlier ≡ Joined → IsSomeAnd (previous server item earlier) (λ former. Linked source item former entry)
+    (time : ℤ) → entry.time ≡ Some time → joint_of server item earlier ≡ Joined
+    → IsSomeAnd (previous server item earlier) (λ former. Linked source item former entry)
 IsLinkedAct source (Set server item joint) earlier = Unit {0}
 IsLinkedAct source (Note line) earlier = Unit {0}
 

@@ -1,9 +1,11 @@
 //! What the rule of the log comes to over whole histories. Each law is the contract of a function that does nothing.
 ghost use Rattle.std.specs.Prelude.{ℕ, List};
+ghost use Rattle.set_model.specs.declared.line.LogLine.{LogLine};
 ghost use Rattle.set_model.specs.declared.source.Change.{Change};
 ghost use Rattle.set_model.specs.Source.{IsSource};
 ghost use Rattle.delivery_log.specs.Caused.{Caused};
 ghost use Rattle.delivery_log.specs.History.{Act, AreWithin, StandsFor, lines_of, log_of};
+ghost use Rattle.delivery_log.specs.Reading.{Tells};
 ghost use Rattle.delivery_log.specs.Safe.{InOrder, Safe};
 ghost use Rattle.delivery_log.specs.WellFed.{AreNotes, IsFed, WellFed};
 
@@ -13,8 +15,8 @@ pub fn log_stands_for_its_history()
     ensures { (servers items : ℕ) (history : List Act) → AreWithin servers items history → StandsFor servers items history (log_of servers items history) }
 {}
 
-/// The law of the log: where each entry is a change of the source, and is linked to the one before it of its server
-/// and item wherever it finds their joint `Joined`, the lines are safe. So each item's data lines are its changes in
+/// The law of the log: where each entry is a change of the source, is linked to the one before it of its server and
+/// item wherever it finds their joint `Joined`, and noted lines tell of no entry, the lines are safe. So each item's data lines are its changes in
 /// order, and no change is missing between two of them without a gap line directly before the later one.
 pub fn well_fed_is_safe()
     ensures { (source : List Change) (history : List Act) → IsSource source → WellFed source history → Safe source (lines_of history) }
@@ -30,4 +32,11 @@ pub fn fed_is_in_order()
 /// of that entry's server and item had, or overflow where the joint was `Joined` and the entry has the overflow bit.
 pub fn gaps_have_true_causes()
     ensures { (history : List Act) → AreNotes history → Caused history (lines_of history) }
+{}
+
+/// What a safe log tells its reader: each data line is a change of the source, the times of an item's data lines rise,
+/// and where a change of the item lies between two neighbouring ones, a gap line of the item stands directly before
+/// the later one, but for lines of what listeners heard.
+pub fn safe_log_tells()
+    ensures { (source : List Change) (log : List LogLine) → IsSource source → Safe source log → Tells source log }
 {}

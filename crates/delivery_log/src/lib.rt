@@ -9,6 +9,7 @@ mod tests;
 
 pub use client_log::Log;
 pub use laws::{
-    fed_is_in_order, gaps_have_true_causes, log_stands_for_its_history, well_fed_is_safe,
+    fed_is_in_order, gaps_have_true_causes, log_stands_for_its_history, safe_log_tells,
+    well_fed_is_safe,
 };
 pub use rule::{Joint, Verdict, judge};
