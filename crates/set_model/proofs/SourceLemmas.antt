@@ -1,7 +1,7 @@
 -- What one more change makes of a source: its last changes and the rise of each item.
 use Rattle.std.proofs.Common.{◌≡◌, ◌==◌, ℕ, ◌<◌, List, [], ◌∷◌, ◌++◌, Bool, true, false, cond, not, Option, Some, None, length, reverse, refl, sym, ◌∙◌, ap, arith, slice_index_or, int_lt}
 use Rattle.std.specs.List.{find}
-use Rattle.std.proofs.Common.{subst}
+use Rattle.std.proofs.Common.{subst, ◌<ℤ◌}
 use Rattle.std.specs.Prelude.{nat_le}
 use Rattle.std.proofs.lemmas.Bool.Decides.{nat_tests}
 use Rattle.std.specs.Prelude.{if◌then◌else◌, slice_set}
@@ -142,3 +142,36 @@ pub more_stands : (lasts : List (Option Change)) (cs ds : List Change) (c : Chan
 more_stands lasts cs ds c long within free h e =
     let P : List Change → Type 0 = λ n. AreLasts (slice_set lasts c.item (Some c)) n × IsSource n in
     subst P (sym e) (lasts_more lasts cs c long within h.0, source_more cs c h.1 (allowed_after cs c free))
+
+-- the changes of an item, where one of them stands between others
+pub of_item-between : (item : ℕ) (cs : List Change) (c : Change) (ds : List Change) → (c.item == item) ≡ true
+    → of_item item (cs ++ c ∷ ds) ≡ of_item item cs ++ c ∷ of_item item ds
+of_item-between item cs c ds is = filter-append (λ d. d.item == item) cs (c ∷ ds)
+    ∙ ap (λ b. of_item item cs ++ cond b (c ∷ of_item item ds) (of_item item ds)) is
+
+follows_among : (a : Change) (cs : List Change) (c : Change) (ds : List Change) → RisesAfter a (cs ++ c ∷ ds) → Follows (newest_from a cs) c
+follows_among a [] c ds h = h.0
+follows_among a (b ∷ cs) c ds h = follows_among b cs c ds h.1
+
+unrefused_test : (last change : Change) (later same : Bool) → int_lt last.time change.time ≡ later → int_eq change.value last.value ≡ same → Follows last change
+    → (if not later then Some (TimeNotRising last.time) else if same then Some SameValue else None) ≡ None
+unrefused_test last change false same l s f = let b : last.time <ℤ change.time = f.later in absurd (grind (arith, ints))
+unrefused_test last change true true l s f = absurd (f.differs (sym ((Decides-int_eq change.value last.value).0 s)))
+unrefused_test last change true false l s f = refl
+
+unrefused_after : (cs : List Change) (c : Change) (ds : List Change) → Rises (cs ++ c ∷ ds) → refusal_after (newest cs) c ≡ None
+unrefused_after [] c ds h = refl
+unrefused_after (a ∷ cs) c ds h = unrefused_test (newest_from a cs) c _ _ refl refl (follows_among a cs c ds h)
+
+not_full : (b : Bool) (n : ℕ) (r : Option SourceFault) → nat_le MOST_CHANGES n ≡ b → n < MOST_CHANGES → r ≡ None → cond b (Some Full) r ≡ None
+not_full true n r is few h = absurd (grind (arith, nat_tests))
+not_full false n r is few h = h
+
+-- no change of a source that is not too long is refused after those before it
+pub allowed_in_source : (cs : List Change) (c : Change) (ds : List Change) → IsSource (cs ++ c ∷ ds) → length cs < MOST_CHANGES → refusal cs c ≡ None
+allowed_in_source cs c ds h few =
+    let P : List Change → Type 0 = Rises in
+    let here : (c.item == c.item) ≡ true = grind (arith, nat_tests) in
+    let rises = subst P (of_item-between c.item cs c ds here) (h.rises c.item) in
+    not_full _ (length cs) (refusal_after (last_of c.item cs) c) refl few
+      (ap (λ o. refusal_after o c) (last_of-newest c.item cs) ∙ unrefused_after (of_item c.item cs) c (of_item c.item ds) rises)

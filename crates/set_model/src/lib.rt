@@ -2,7 +2,9 @@
 #![tactic(auto)]
 
 mod line;
+mod report;
 mod source;
 
 pub use line::{Arrived, GapCause, LogLine, Seen, UaRaw, write_line};
+pub use report::report_of;
 pub use source::{Change, MOST_CHANGES, SourceFault, SourceLog};

@@ -1,0 +1,9 @@
+pub mod Shapes
+pub mod Held
+pub mod Fed
+pub mod Taking
+pub mod Feeding
+pub mod Starting
+pub mod Servers
+pub mod Kept
+pub mod Law

@@ -1,0 +1,8 @@
+use Rattle.direct_world.proofs.Law.{world_safe, world_in_order}
+use Rattle.direct_world.proofs.laws.log_is_safe.Goals as goal
+
+pub returns-clause-safe : goal.returns-clause-safe
+returns-clause-safe c = world_safe
+
+pub returns-clause-order : goal.returns-clause-order
+returns-clause-order c = world_in_order

@@ -1,0 +1,8 @@
+//! The world of direct servers: lives, the one source, and a client that takes entries from the servers' queues.
+#![tactic(auto)]
+
+pub mod laws;
+mod server;
+mod world;
+
+pub use world::World;

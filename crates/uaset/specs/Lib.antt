@@ -1,0 +1,4 @@
+pub mod Answer
+pub mod Edges
+pub mod Run
+pub mod Status

@@ -1,0 +1,67 @@
+ghost use Rattle.std.specs.Prelude.{◌≡◌, ◌≤◌, IfOk, OnOk};
+ghost use Rattle.direct_world.specs.World.{after_all};
+ghost use Rattle.set_model.specs.Report.{report_text};
+ghost use Rattle.uaset.specs.Answer.{Gives, answer_of, client_log, size_of};
+
+use direct_world::World;
+use scenario::{Line, ReadError};
+use set_model::report_of;
+use std::alloc::Global;
+use ua_base::OutOfMemory;
+
+/// How wide a set is, as its first two lines say.
+#[derive(Clone, Copy, Debug, PartialEq, Eq)]
+struct Size {
+    servers: u8,
+    items: u8,
+    queue: u32,
+}
+
+fn size_of(lines: &[Line]) -> Size
+    ensures servers { result.servers ≡ (size_of lines.now).servers }
+    ensures items { result.items ≡ (size_of lines.now).items }
+    ensures queue { result.queue ≡ (size_of lines.now).queue }
+{
+    match lines {
+        [Line::Set { servers, .. }, Line::Items { items, queue }, ..] => Size {
+            servers: *servers,
+            items: *items,
+            queue: *queue,
+        },
+        _ => Size {
+            servers: 0,
+            items: 0,
+            queue: 2,
+        },
+    }
+}
+
+/// Takes each line in turn.
+fn run_lines(alloc: Global, world: &mut World, lines: &[Line]) -> Result<(), OutOfMemory>
+    ensures { OnOk result (world.new ≡ after_all lines.now world.old) }
+{
+    for line in lines {
+        world.line(alloc, line)?;
+    }
+    Ok(())
+}
+
+/// The report of the world over a scenario's lines.
+fn report_lines(alloc: Global, lines: &[Line]) -> Result<Vec<u8>, OutOfMemory>
+    requires least { 1 ≤ (size_of lines.now).queue }
+    requires most { (size_of lines.now).queue ≤ 1000 }
+    ensures { IfOk result (λ text. text.items ≡ report_text (client_log lines.now)) }
+{
+    let size = size_of(lines);
+    let mut world = World::new(alloc, size.servers, size.items, size.queue)?;
+    run_lines(alloc, &mut world, lines)?;
+    report_of(alloc, world.lines())
+}
+
+/// The report of a scenario's text, or its first faulty line.
+pub(crate) fn replay(alloc: Global, bytes: &[u8]) -> Result<Vec<u8>, ReadError>
+    ensures { Gives (λ text. text.items) result (answer_of bytes.now) }
+{
+    let lines = scenario::read(alloc, bytes, 0)?;
+    Ok(report_lines(alloc, lines.as_slice())?)
+}
