@@ -13,4 +13,4 @@ pub use fault::{FaultKind, ReadError, ScenarioFault};
 pub use form::Form;
 pub use line::Line;
 pub use reader::MOST_LINES;
-pub use text::read;
+pub use text::{read, write};
