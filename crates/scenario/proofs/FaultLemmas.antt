@@ -100,13 +100,13 @@ taken pool before text l h =
     let none : form_fault pool before v.1 ≡ None = sym (ap (any_form_fault pool before) v.2) ∙ b.1 in
     record { f = v.1; is = v.2; line_is = v.3; few = grind (arith, nat_tests); passes = passes pool before v.1 none }
 
-set_place : (n : ℕ) (e : Bool) → cond (n == 0) true (cond (n == 1) false (not (true || false || e))) ≡ true → n ≡ 0
+pub set_place : (n : ℕ) (e : Bool) → cond (n == 0) true (cond (n == 1) false (not (true || false || e))) ≡ true → n ≡ 0
 set_place n e h = grind (arith, nat_tests)
 
-items_place : (n : ℕ) (e : Bool) → cond (n == 0) false (cond (n == 1) true (not (false || true || e))) ≡ true → n ≡ 1
+pub items_place : (n : ℕ) (e : Bool) → cond (n == 0) false (cond (n == 1) true (not (false || true || e))) ≡ true → n ≡ 1
 items_place n e h = grind (arith, nat_tests)
 
-within_range : (low high n : ℕ) → is_within low high n ≡ true → (low ≤ n) × (n ≤ high)
+pub within_range : (low high n : ℕ) → is_within low high n ≡ true → (low ≤ n) × (n ≤ high)
 within_range low high n h = (grind (arith, nat_tests), grind (arith, nat_tests))
 
 under : (low n : ℕ) → nat_le low n ≡ false → n < low

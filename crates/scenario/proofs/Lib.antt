@@ -2,3 +2,4 @@ pub mod WordLemmas
 pub mod PastLemmas
 pub mod FaultLemmas
 pub mod CapLemmas
+pub mod ValidLemmas

@@ -5,3 +5,4 @@ pub mod Past
 pub mod Faults
 pub mod Reading
 pub mod Scenario
+pub mod Valid

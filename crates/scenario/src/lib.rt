@@ -3,6 +3,7 @@
 
 mod fault;
 mod form;
+mod laws;
 mod line;
 mod reader;
 mod tally;
@@ -11,6 +12,10 @@ mod words;
 
 pub use fault::{FaultKind, ReadError, ScenarioFault};
 pub use form::Form;
+pub use laws::valid_lines;
 pub use line::Line;
 pub use reader::MOST_LINES;
-pub use text::read;
+pub use text::{read, write};
+
+#[cfg(test)]
+mod tests;

@@ -1,6 +1,5 @@
-ghost use Rattle.std.specs.Prelude.{◌≡◌};
-
 use set_model::Change;
+use std::fmt;
 use ua_base::SetMode;
 
 /// One line of a scenario.
@@ -26,4 +25,52 @@ pub enum Line {
     Unlisten { id: u8 },
     /// The last line.
     End,
+}
+
+/// A mode by its word.
+#[derive(Clone, Copy)]
+struct ModeWord(SetMode);
+
+impl fmt::Display for ModeWord {
+    ghost use Rattle.std.specs.Prelude.{Some};
+    ghost use Rattle.scenario.specs.Texts.{mode_text};
+
+    ghost output = { λ word. Some (mode_text word.0) };
+
+    fn fmt<W: fmt::Write>(&self, f: &mut fmt::Formatter<W>) -> fmt::Result {
+        f.write_str(match self.0 {
+            SetMode::Direct => "direct",
+            SetMode::Hot => "hot",
+            SetMode::Warm => "warm",
+            SetMode::Cold => "cold",
+        })
+    }
+}
+
+impl fmt::Display for Line {
+    ghost use Rattle.std.specs.Prelude.{Some};
+    ghost use Rattle.scenario.specs.Texts.{line_text};
+
+    ghost output = { λ line. Some (line_text line) };
+
+    fn fmt<W: fmt::Write>(&self, f: &mut fmt::Formatter<W>) -> fmt::Result {
+        match self {
+            Line::Set { mode, servers } => {
+                let word = ModeWord(*mode);
+                write!(f, "set {word} {servers}")
+            }
+            Line::Items { items, queue } => write!(f, "items {items} queue {queue}"),
+            Line::Change { change } => {
+                let Change { item, time, value } = *change;
+                write!(f, "change {item} {time} {value}")
+            }
+            Line::Feed { server, count } => write!(f, "feed {server} {count}"),
+            Line::Take { server, count } => write!(f, "take {server} {count}"),
+            Line::Stop { server } => write!(f, "stop {server}"),
+            Line::Start { server } => write!(f, "start {server}"),
+            Line::Listen { item } => write!(f, "listen {item}"),
+            Line::Unlisten { id } => write!(f, "unlisten {id}"),
+            Line::End => f.write_str("end"),
+        }
+    }
 }

@@ -1,0 +1,361 @@
+-- The lines of a valid text are a scenario.
+use Rattle.std.proofs.Common.{◌≡◌, ◌==◌, ℕ, ◌+◌, ◌<◌, ◌≤◌, ℤ, List, [], ◌∷◌, ◌++◌, Bool, true, false, cond, not, Option, Some, None, Result, Ok, Err, length, refl, sym, ◌∙◌, ap, subst, arith, int_lt}
+use Rattle.std.specs.Prelude.{nat_le, ◌||◌}
+use Rattle.std.specs.Ordering.{int_eq}
+use Rattle.std.proofs.lemmas.Bool.Decides.{nat_tests}
+use Rattle.std.proofs.lemmas.Bool.{and_parts}
+use Rattle.std.proofs.lemmas.List.{append_assoc, append-nil, length-append}
+use Rattle.ua_base.specs.declared.modes.SetMode.{SetMode}
+use Rattle.ua_base.specs.declared.modes.SetMode.TheVariants.{Direct, Hot, Warm, Cold}
+use Rattle.set_model.specs.declared.source.Change.{Change}
+use Rattle.set_model.specs.declared.source.SourceFault.{SourceFault}
+use Rattle.set_model.specs.declared.source.SourceFault.TheVariants as source
+use Rattle.set_model.specs.declared.source.TheConstants.{MOST_CHANGES}
+use Rattle.set_model.specs.Source.{IsSource, refusal, refusal_after, last_of}
+use Rattle.set_model.proofs.SourceLemmas.{allowed_after, source_more}
+use Rattle.scenario.specs.declared.form.Form.{Form}
+use Rattle.scenario.specs.declared.form.Form.TheVariants as form
+use Rattle.scenario.specs.declared.line.Line.{Line}
+use Rattle.scenario.specs.declared.line.Line.TheVariants as line
+use Rattle.scenario.specs.declared.fault.FaultKind.{FaultKind}
+use Rattle.scenario.specs.declared.fault.FaultKind.TheVariants as kind
+use Rattle.scenario.specs.declared.fault.ScenarioFault.{ScenarioFault}
+use Rattle.scenario.specs.declared.reader.TheConstants.{MOST_LINES}
+use Rattle.scenario.specs.Words.{lines_of}
+use Rattle.scenario.specs.Past.{servers_of, items_of, servers_in, items_in, change_of, changes_in, ends, has_ended, listens, listens_in, attached_in}
+use Rattle.scenario.specs.Faults.{is_within, is_direct, kind_of_refusal, the_change, line_of, judged}
+use Rattle.scenario.specs.Scenario.{kind_at_end, go_on, valid_from, scenario_of}
+use Rattle.scenario.specs.Valid.{IsFrom, Fits, AllFit, IsScenario}
+use Rattle.scenario.proofs.PastLemmas.{changes_in-more, servers_in-more, items_in-more, has_ended-more, listens_in-more}
+use Rattle.scenario.proofs.FaultLemmas.{Passes, taken, within_range}
+
+-- a line was taken after these, from some text
+pub record Allowed (pool : ℕ) (before : List Line) (l : Line) : Type 0 where
+  pub text : List ℕ
+  pub is : judged pool before text ≡ Ok l
+
+-- lines of which each was taken after those before it, up to `end`
+abbrev pub Follow : ℕ → List Line → List Line → Type 0
+Follow pool before [] = has_ended before ≡ true
+Follow pool before (l ∷ ls) = Allowed pool before l × Follow pool (before ++ l ∷ []) ls
+
+pub record Followed (pool : ℕ) (before lines : List Line) : Type 0 where
+  pub more : List Line
+  pub lines_are : lines ≡ before ++ more
+  pub follow : Follow pool before more
+
+ended_ok : (b : Bool) (before lines : List Line) (fault : ScenarioFault) → has_ended before ≡ b → cond b (Ok before) (Err fault) ≡ Ok lines
+    → (has_ended before ≡ true) × (before ≡ lines)
+ended_ok true before lines fault e h = (e, cc)
+ended_ok false before lines fault e h = absurd cc
+
+go_on_ok : (before lines : List Line) (more : Line → Result (List Line) ScenarioFault) (j : Result Line FaultKind) → go_on before more j ≡ Ok lines
+    → (l : Line) × (j ≡ Ok l) × (more l ≡ Ok lines)
+go_on_ok before lines more (Ok l) h = (l, refl, h)
+go_on_ok before lines more (Err k) h = absurd cc
+
+pub followed : (pool : ℕ) (before : List Line) (texts : List (List ℕ)) (lines : List Line) → valid_from pool before texts ≡ Ok lines → Followed pool before lines
+followed pool before [] lines h =
+    let e = ended_ok (has_ended before) before lines (record { line = length before + 1; kind = kind_at_end before }) refl h in
+    record { more = []; lines_are = sym e.1 ∙ sym (append-nil before); follow = e.0 }
+followed pool before (text ∷ texts) lines h =
+    let g = go_on_ok before lines (λ l. valid_from pool (before ++ l ∷ []) texts) (judged pool before text) h in
+    let f = followed pool (before ++ g.0 ∷ []) texts lines g.2 in
+    record {
+      more = g.0 ∷ f.more;
+      lines_are = f.lines_are ∙ append_assoc before (g.0 ∷ []) f.more;
+      follow = (record { text = text; is = g.1 }, f.follow);
+    }
+
+-- the length, the listens and the source along lines that follow
+pub few_follow : (pool : ℕ) (before more : List Line) → length before ≤ 1000000 → Follow pool before more → length (before ++ more) ≤ 1000000
+few_follow pool before [] few h = rw (append-nil before) few
+few_follow pool before (l ∷ ls) few h =
+    let t : length before < MOST_LINES = (taken pool before h.0.text l h.0.is).few in
+    let e : length (before ++ l ∷ []) ≡ length before + 1 = length-append before (l ∷ []) in
+    let P : List Line → Type 0 = λ all. length all ≤ 1000000 in
+    subst P (append_assoc before (l ∷ []) ls) (few_follow pool (before ++ l ∷ []) ls (omega arith) h.1)
+
+pool_left : (pool n m : ℕ) → cond (nat_le pool n || nat_le 16 m || nat_le 255 n) (Some kind.NoListener) None ≡ None → n < pool
+pool_left pool n m h = grind (arith, nat_tests)
+
+-- a listen that is taken finds a listener
+listens_left : (pool : ℕ) (before : List Line) (f : Form) → Passes pool before f → listens_in before ≤ pool → listens_in before + cond (listens (line_of f)) 1 0 ≤ pool
+listens_left pool before (form.Set mode servers) h few = omega arith
+listens_left pool before (form.Items items queue) h few = omega arith
+listens_left pool before (form.Change item time value) h few = omega arith
+listens_left pool before (form.Feed server count) h few = omega arith
+listens_left pool before (form.Take server count) h few = omega arith
+listens_left pool before (form.Stop server) h few = omega arith
+listens_left pool before (form.Start server) h few = omega arith
+listens_left pool before (form.Listen item) h few =
+    let left = pool_left pool (listens_in before) (length (attached_in before)) h.listener in omega arith
+listens_left pool before (form.Unlisten id) h few = omega arith
+listens_left pool before form.End h few = omega arith
+
+pub listens_follow : (pool : ℕ) (before more : List Line) → listens_in before ≤ pool → Follow pool before more → listens_in (before ++ more) ≤ pool
+listens_follow pool before [] few h = rw (append-nil before) few
+listens_follow pool before (l ∷ ls) few h =
+    let t = taken pool before h.0.text l h.0.is in
+    let P : List Line → Type 0 = λ all. listens_in all ≤ pool in
+    let Q : Line → Type 0 = λ m. listens_in before + cond (listens m) 1 0 ≤ pool in
+    let left : listens_in before + cond (listens l) 1 0 ≤ pool = subst Q t.line_is (listens_left pool before t.f t.passes few) in
+    let e : listens_in (before ++ l ∷ []) ≡ listens_in before + cond (listens l) 1 0 = listens_in-more before l in
+    subst P (append_assoc before (l ∷ []) ls) (listens_follow pool (before ++ l ∷ []) ls (omega arith) h.1)
+
+-- a change of which the source has no fault is not refused
+none_after : (late same : Bool) (time : ℤ) → kind_of_refusal (cond late (Some (source.TimeNotRising time)) (cond same (Some source.SameValue) None)) ≡ None
+    → cond late (Some (source.TimeNotRising time)) (cond same (Some source.SameValue) None) ≡ None
+none_after true same time h = absurd cc
+none_after false true time h = absurd cc
+none_after false false time h = refl
+
+none_last : (last : Option Change) (change : Change) → kind_of_refusal (refusal_after last change) ≡ None → refusal_after last change ≡ None
+none_last None change h = refl
+none_last (Some last) change h = none_after (not (int_lt last.time change.time)) (int_eq change.value last.value) last.time h
+
+none_full : (full : Bool) (o : Option SourceFault) → (kind_of_refusal o ≡ None → o ≡ None) → kind_of_refusal (cond full (Some source.Full) o) ≡ None → cond full (Some source.Full) o ≡ None
+none_full true o f h = absurd cc
+none_full false o f h = f h
+
+not_refused : (changes : List Change) (change : Change) → kind_of_refusal (refusal changes change) ≡ None → refusal changes change ≡ None
+not_refused changes change h = none_full (nat_le MOST_CHANGES (length changes)) (refusal_after (last_of change.item changes) change) (none_last (last_of change.item changes) change) h
+
+source_step : (pool : ℕ) (before : List Line) (f : Form) → Passes pool before f → IsSource (changes_in before) → IsSource (changes_in before ++ change_of (line_of f))
+source_step pool before (form.Change item time value) h s =
+    source_more (changes_in before) (the_change item time value) s
+    (allowed_after (changes_in before) (the_change item time value) (not_refused (changes_in before) (the_change item time value) h.source))
+source_step pool before (form.Set mode servers) h s = rw (append-nil (changes_in before)) s
+source_step pool before (form.Items items queue) h s = rw (append-nil (changes_in before)) s
+source_step pool before (form.Feed server count) h s = rw (append-nil (changes_in before)) s
+source_step pool before (form.Take server count) h s = rw (append-nil (changes_in before)) s
+source_step pool before (form.Stop server) h s = rw (append-nil (changes_in before)) s
+source_step pool before (form.Start server) h s = rw (append-nil (changes_in before)) s
+source_step pool before (form.Listen item) h s = rw (append-nil (changes_in before)) s
+source_step pool before (form.Unlisten id) h s = rw (append-nil (changes_in before)) s
+source_step pool before form.End h s = rw (append-nil (changes_in before)) s
+
+pub source_follow : (pool : ℕ) (before more : List Line) → IsSource (changes_in before) → Follow pool before more → IsSource (changes_in (before ++ more))
+source_follow pool before [] s h = rw (append-nil before) s
+source_follow pool before (l ∷ ls) s h =
+    let t = taken pool before h.0.text l h.0.is in
+    let P : List Line → Type 0 = λ all. IsSource (changes_in all) in
+    let Q : Line → Type 0 = λ m. IsSource (changes_in before ++ change_of m) in
+    let R : List Change → Type 0 = λ all. IsSource all in
+    let now : IsSource (changes_in (before ++ l ∷ [])) = subst R (sym (changes_in-more before l)) (subst Q t.line_is (source_step pool before t.f t.passes s)) in
+    subst P (append_assoc before (l ∷ []) ls) (source_follow pool (before ++ l ∷ []) ls now h.1)
+
+false_true : false ≡ true → ⊥
+false_true h = cc
+
+both : (b : Bool) → b ≡ true → b ≡ false → ⊥
+both b p q = cc
+
+first_two : (m : ℕ) (z s i : Bool) → 2 ≤ m → z ≡ false → cond (m == 0) s (cond (m == 1) i z) ≡ true → ⊥
+first_two m z s i long e h = grind (arith, nat_tests)
+
+-- what a form at the third line or later is
+record Later (e s i : Bool) : Type 0 where
+  set : s ≡ false
+  items : i ≡ false
+  open_still : e ≡ false
+
+later : (n : ℕ) (s i e : Bool) → 2 ≤ n → cond (n == 0) s (cond (n == 1) i (not (s || i || e))) ≡ true → Later e s i
+later n true i e long h = absurd (first_two n (not (true || i || e)) true i long refl h)
+later n false true e long h = absurd (first_two n (not (false || true || e)) false true long refl h)
+later n false false true long h = absurd (first_two n (not (false || false || true)) false false long refl h)
+later n false false false long h = record { set = refl; items = refl; open_still = refl }
+
+-- the lines after the second: those that fit, and `end`
+record Body (servers items : ℕ) (rest : List Line) : Type 0 where
+  body : List Line
+  rest_is : rest ≡ body ++ line.End ∷ []
+  fits : AllFit servers items body
+
+-- lines of a set with so many servers and items, at least two, and not yet at the end
+record Open (servers items : ℕ) (before : List Line) : Type 0 where
+  long : 2 ≤ length before
+  servers_are : servers_in before ≡ servers
+  items_are : items_in before ≡ items
+  open_still : has_ended before ≡ false
+
+stays_open : (servers items : ℕ) (before : List Line) (l : Line) → Open servers items before → servers_of l ≡ 0 → items_of l ≡ 0 → ends l ≡ false → Open servers items (before ++ l ∷ [])
+stays_open servers items before l o s i e = record {
+  long = let k : length (before ++ l ∷ []) ≡ length before + 1 = length-append before (l ∷ []) in let m : 2 ≤ length before = o.long in omega arith;
+  servers_are = servers_in-more before l s ∙ o.servers_are;
+  items_are = items_in-more before l i ∙ o.items_are;
+  open_still = has_ended-more before l ∙ ap (λ b. cond b true (has_ended before)) e ∙ o.open_still;
+}
+
+-- after `end` no line is taken
+closed : (pool : ℕ) (before ls : List Line) → 2 ≤ length before → has_ended before ≡ true → Follow pool before ls → ls ≡ []
+closed pool before [] long e h = refl
+closed pool before (l ∷ ls) long e h =
+    let t = taken pool before h.0.text l h.0.is in
+    absurd (both (has_ended before) e (still pool before t.f long t.passes))
+  where
+    still : (pool : ℕ) (before : List Line) (f : Form) → 2 ≤ length before → Passes pool before f → has_ended before ≡ false
+    still pool before (form.Set mode servers) long p = (later (length before) true false (has_ended before) long p.place).open_still
+    still pool before (form.Items items queue) long p = (later (length before) false true (has_ended before) long p.place).open_still
+    still pool before (form.Change item time value) long p = (later (length before) false false (has_ended before) long p.place).open_still
+    still pool before (form.Feed server count) long p = (later (length before) false false (has_ended before) long p.place).open_still
+    still pool before (form.Take server count) long p = (later (length before) false false (has_ended before) long p.place).open_still
+    still pool before (form.Stop server) long p = (later (length before) false false (has_ended before) long p.place).open_still
+    still pool before (form.Start server) long p = (later (length before) false false (has_ended before) long p.place).open_still
+    still pool before (form.Listen item) long p = (later (length before) false false (has_ended before) long p.place).open_still
+    still pool before (form.Unlisten id) long p = (later (length before) false false (has_ended before) long p.place).open_still
+    still pool before form.End long p = (later (length before) false false (has_ended before) long p.place).open_still
+
+-- one line that fits, or `end`
+abbrev Next : ℕ → ℕ → List Line → Line → Type 0
+Next servers items before line.End = Unit {0}
+Next servers items before l = Fits servers items l × Open servers items (before ++ l ∷ [])
+
+wide : (a b n : ℕ) → a ≡ b → IsFrom 1 a n → IsFrom 1 b n
+wide a b n e h = (h.0, omega arith)
+
+next : (pool servers items : ℕ) (before : List Line) (f : Form) → Open servers items before → Passes pool before f → Next servers items before (line_of f)
+next pool servers items before (form.Set mode count) o p = absurd (false_true (sym (later (length before) true false (has_ended before) o.long p.place).set))
+next pool servers items before (form.Items count queue) o p = absurd (false_true (sym (later (length before) false true (has_ended before) o.long p.place).items))
+next pool servers items before (form.Change item time value) o p =
+    (wide _ _ item o.items_are (within_range 1 (items_in before) item p.item), stays_open servers items before (line.Change (the_change item time value)) o refl refl refl)
+next pool servers items before (form.Feed server count) o p =
+    ((wide _ _ server o.servers_are (within_range 1 (servers_in before) server p.server), within_range 1 200000 count p.range), stays_open servers items before (line.Feed server count) o refl refl refl)
+next pool servers items before (form.Take server count) o p =
+    ((wide _ _ server o.servers_are (within_range 1 (servers_in before) server p.server), within_range 1 1000 count p.range), stays_open servers items before (line.Take server count) o refl refl refl)
+next pool servers items before (form.Stop server) o p =
+    (wide _ _ server o.servers_are (within_range 1 (servers_in before) server p.server), stays_open servers items before (line.Stop server) o refl refl refl)
+next pool servers items before (form.Start server) o p =
+    (wide _ _ server o.servers_are (within_range 1 (servers_in before) server p.server), stays_open servers items before (line.Start server) o refl refl refl)
+next pool servers items before (form.Listen item) o p =
+    (wide _ _ item o.items_are (within_range 1 (items_in before) item p.item), stays_open servers items before (line.Listen item) o refl refl refl)
+next pool servers items before (form.Unlisten id) o p =
+    (within_range 1 255 id p.range, stays_open servers items before (line.Unlisten id) o refl refl refl)
+next pool servers items before form.End o p = tt
+
+with_line : (servers items : ℕ) (l : Line) (ls : List Line) → Fits servers items l → Body servers items ls → Body servers items (l ∷ ls)
+with_line servers items l ls fit b = record { body = l ∷ b.body; rest_is = ap (λ more. l ∷ more) b.rest_is; fits = (fit, b.fits) }
+
+body_step : (pool servers items : ℕ) (before : List Line) (l : Line) (ls : List Line) → 2 ≤ length before → Next servers items before l → Follow pool (before ++ l ∷ []) ls
+    → (Open servers items (before ++ l ∷ []) → Body servers items ls) → Body servers items (l ∷ ls)
+body_step pool servers items before line.End ls long n h more =
+    let e : length (before ++ line.End ∷ []) ≡ length before + 1 = length-append before (line.End ∷ []) in
+    let none : ls ≡ [] = closed pool (before ++ line.End ∷ []) ls (omega arith) (has_ended-more before line.End) h in
+    record { body = []; rest_is = ap (λ rest. line.End ∷ rest) none; fits = tt }
+body_step pool servers items before (line.Set mode count) ls long n h more = absurd n.0
+body_step pool servers items before (line.Items count queue) ls long n h more = absurd n.0
+body_step pool servers items before (line.Change change) ls long n h more = with_line servers items (line.Change change) ls n.0 (more n.1)
+body_step pool servers items before (line.Feed server count) ls long n h more = with_line servers items (line.Feed server count) ls n.0 (more n.1)
+body_step pool servers items before (line.Take server count) ls long n h more = with_line servers items (line.Take server count) ls n.0 (more n.1)
+body_step pool servers items before (line.Stop server) ls long n h more = with_line servers items (line.Stop server) ls n.0 (more n.1)
+body_step pool servers items before (line.Start server) ls long n h more = with_line servers items (line.Start server) ls n.0 (more n.1)
+body_step pool servers items before (line.Listen item) ls long n h more = with_line servers items (line.Listen item) ls n.0 (more n.1)
+body_step pool servers items before (line.Unlisten id) ls long n h more = with_line servers items (line.Unlisten id) ls n.0 (more n.1)
+
+body_of : (pool servers items : ℕ) (before rest : List Line) → Open servers items before → Follow pool before rest → Body servers items rest
+body_of pool servers items before [] o h = absurd (both (has_ended before) h o.open_still)
+body_of pool servers items before (l ∷ ls) o h =
+    let t = taken pool before h.0.text l h.0.is in
+    let P : Line → Type 0 = λ m. Next servers items before m in
+    body_step pool servers items before l ls o.long (subst P t.line_is (next pool servers items before t.f o t.passes)) h.1
+    (λ still. body_of pool servers items (before ++ l ∷ []) ls still h.1)
+
+-- the first line, and the second
+record First (l : Line) : Type 0 where
+  servers : ℕ
+  is : l ≡ line.Set Direct servers
+  fits : IsFrom 1 8 servers
+
+record Second (l : Line) : Type 0 where
+  items : ℕ
+  queue : ℕ
+  is : l ≡ line.Items items queue
+  items_fit : IsFrom 1 64 items
+  queue_fits : IsFrom 2 1000 queue
+
+direct : (mode : SetMode) (servers : ℕ) → is_direct mode ≡ true → line.Set mode servers ≡ line.Set Direct servers
+direct Direct servers h = refl
+direct Hot servers h = absurd cc
+direct Warm servers h = absurd cc
+direct Cold servers h = absurd cc
+
+first_form : (pool : ℕ) (f : Form) → Passes pool [] f → First (line_of f)
+first_form pool (form.Set mode servers) p = record { servers = servers; is = direct mode servers p.built; fits = within_range 1 8 servers p.range }
+first_form pool (form.Items items queue) p = absurd (false_true p.place)
+first_form pool (form.Change item time value) p = absurd (false_true p.place)
+first_form pool (form.Feed server count) p = absurd (false_true p.place)
+first_form pool (form.Take server count) p = absurd (false_true p.place)
+first_form pool (form.Stop server) p = absurd (false_true p.place)
+first_form pool (form.Start server) p = absurd (false_true p.place)
+first_form pool (form.Listen item) p = absurd (false_true p.place)
+first_form pool (form.Unlisten id) p = absurd (false_true p.place)
+first_form pool form.End p = absurd (false_true p.place)
+
+second_form : (pool : ℕ) (first : Line) (f : Form) → Passes pool (first ∷ []) f → Second (line_of f)
+second_form pool first (form.Items items queue) p =
+    let parts = and_parts (is_within 1 64 items) (is_within 2 1000 queue) p.range in
+    record { items = items; queue = queue; is = refl; items_fit = within_range 1 64 items parts.0; queue_fits = within_range 2 1000 queue parts.1 }
+second_form pool first (form.Set mode servers) p = absurd (false_true p.place)
+second_form pool first (form.Change item time value) p = absurd (false_true p.place)
+second_form pool first (form.Feed server count) p = absurd (false_true p.place)
+second_form pool first (form.Take server count) p = absurd (false_true p.place)
+second_form pool first (form.Stop server) p = absurd (false_true p.place)
+second_form pool first (form.Start server) p = absurd (false_true p.place)
+second_form pool first (form.Listen item) p = absurd (false_true p.place)
+second_form pool first (form.Unlisten id) p = absurd (false_true p.place)
+second_form pool first form.End p = absurd (false_true p.place)
+
+first_of_all : (pool : ℕ) (l : Line) → Allowed pool [] l → First l
+first_of_all pool l h =
+    let t = taken pool [] h.text l h.is in
+    let P : Line → Type 0 = λ m. First m in
+    subst P t.line_is (first_form pool t.f t.passes)
+
+second_of_all : (pool : ℕ) (first l : Line) → Allowed pool (first ∷ []) l → Second l
+second_of_all pool first l h =
+    let t = taken pool (first ∷ []) h.text l h.is in
+    let P : Line → Type 0 = λ m. Second m in
+    subst P t.line_is (second_form pool first t.f t.passes)
+
+open_set : (servers items queue : ℕ) (l m : Line) → l ≡ line.Set Direct servers → m ≡ line.Items items queue → Open servers items (l ∷ (m ∷ []))
+open_set servers items queue l m e f =
+    let P : Line → Type 0 = λ x. Open servers items (x ∷ (m ∷ [])) in
+    let Q : Line → Type 0 = λ x. Open servers items (line.Set Direct servers ∷ (x ∷ [])) in
+    subst P (sym e) (subst Q (sym f) (record { long = omega arith; servers_are = refl; items_are = refl; open_still = refl }))
+
+no_end : (l : Line) → First l → has_ended (l ∷ []) ≡ true → ⊥
+no_end l f h =
+    let P : Line → Type 0 = λ x. has_ended (x ∷ []) ≡ true in
+    false_true (subst P f.is h)
+
+-- lines that follow one another from the first on are a scenario
+scenario_from : (pool : ℕ) (lines : List Line) → Follow pool [] lines → IsSource (changes_in lines) → length lines ≤ 1000000 → listens_in lines ≤ pool → IsScenario pool lines
+scenario_from pool [] h s few heard = absurd (false_true h)
+scenario_from pool (l ∷ []) h s few heard = absurd (no_end l (first_of_all pool l h.0) h.1)
+scenario_from pool (l ∷ (m ∷ rest)) h s few heard =
+    let a = first_of_all pool l h.0 in
+    let b = second_of_all pool l m h.1.0 in
+    let c = body_of pool a.servers b.items (l ∷ (m ∷ [])) rest (open_set a.servers b.items b.queue l m a.is b.is) h.1.1 in
+    record {
+      servers = a.servers;
+      items = b.items;
+      queue = b.queue;
+      body = c.body;
+      lines_are = ap (λ x. x ∷ (m ∷ rest)) a.is ∙ ap (λ x. line.Set Direct a.servers ∷ (x ∷ rest)) b.is
+          ∙ ap (λ x. line.Set Direct a.servers ∷ (line.Items b.items b.queue ∷ x)) c.rest_is;
+      servers_fit = a.fits;
+      items_fit = b.items_fit;
+      queue_fits = b.queue_fits;
+      body_fits = c.fits;
+      source = s;
+      few_lines = few;
+      few_listens = heard;
+    }
+
+pub valid_lines : (pool : ℕ) (bytes : List ℕ) (lines : List Line) → scenario_of pool bytes ≡ Ok lines → IsScenario pool lines
+valid_lines pool bytes lines h =
+    let f = followed pool [] (lines_of bytes) lines h in
+    let P : List Line → Type 0 = λ all. IsScenario pool all in
+    subst P (sym f.lines_are)
+    (scenario_from pool f.more f.follow (source_follow pool [] f.more (record { rises = λ _. tt }) f.follow) (few_follow pool [] f.more (omega arith) f.follow)
+    (listens_follow pool [] f.more (omega arith) f.follow))
