@@ -145,6 +145,43 @@ source_follow pool before (l ∷ ls) s h =
     let now : IsSource (changes_in (before ++ l ∷ [])) = subst R (sym (changes_in-more before l)) (subst Q t.line_is (source_step pool before t.f t.passes s)) in
     subst P (append_assoc before (l ∷ []) ls) (source_follow pool (before ++ l ∷ []) ls now h.1)
 
+none_is_room : (full : Bool) (o : Option SourceFault) → cond full (Some source.Full) o ≡ None → full ≡ false
+none_is_room true o h = absurd cc
+none_is_room false o h = refl
+
+-- a change that is not refused finds room
+room_left : (changes : List Change) (change : Change) → refusal changes change ≡ None → length changes < MOST_CHANGES
+room_left changes change h =
+    let b : nat_le MOST_CHANGES (length changes) ≡ false = none_is_room (nat_le MOST_CHANGES (length changes)) (refusal_after (last_of change.item changes) change) h in
+    grind (arith, nat_tests)
+
+room_step : (pool : ℕ) (before : List Line) (f : Form) → Passes pool before f → length (changes_in before) ≤ MOST_CHANGES
+    → length (changes_in before ++ change_of (line_of f)) ≤ MOST_CHANGES
+room_step pool before (form.Change item time value) h few =
+    let room : length (changes_in before) < MOST_CHANGES =
+        room_left (changes_in before) (the_change item time value) (not_refused (changes_in before) (the_change item time value) h.source) in
+    omega (arith, length-append (changes_in before) (the_change item time value ∷ []))
+room_step pool before (form.Set mode servers) h few = rw (append-nil (changes_in before)) few
+room_step pool before (form.Items items queue) h few = rw (append-nil (changes_in before)) few
+room_step pool before (form.Feed server count) h few = rw (append-nil (changes_in before)) few
+room_step pool before (form.Take server count) h few = rw (append-nil (changes_in before)) few
+room_step pool before (form.Stop server) h few = rw (append-nil (changes_in before)) few
+room_step pool before (form.Start server) h few = rw (append-nil (changes_in before)) few
+room_step pool before (form.Listen item) h few = rw (append-nil (changes_in before)) few
+room_step pool before (form.Unlisten id) h few = rw (append-nil (changes_in before)) few
+room_step pool before form.End h few = rw (append-nil (changes_in before)) few
+
+pub changes_follow : (pool : ℕ) (before more : List Line) → length (changes_in before) ≤ MOST_CHANGES → Follow pool before more
+    → length (changes_in (before ++ more)) ≤ MOST_CHANGES
+changes_follow pool before [] few h = rw (append-nil before) few
+changes_follow pool before (l ∷ ls) few h =
+    let t = taken pool before h.0.text l h.0.is in
+    let P : List Line → Type 0 = λ all. length (changes_in all) ≤ MOST_CHANGES in
+    let Q : Line → Type 0 = λ m. length (changes_in before ++ change_of m) ≤ MOST_CHANGES in
+    let R : List Change → Type 0 = λ all. length all ≤ MOST_CHANGES in
+    let now : length (changes_in (before ++ l ∷ [])) ≤ MOST_CHANGES = subst R (sym (changes_in-more before l)) (subst Q t.line_is (room_step pool before t.f t.passes few)) in
+    subst P (append_assoc before (l ∷ []) ls) (changes_follow pool (before ++ l ∷ []) ls now h.1)
+
 false_true : false ≡ true → ⊥
 false_true h = cc
 
@@ -329,10 +366,10 @@ no_end l f h =
     false_true (subst P f.is h)
 
 -- lines that follow one another from the first on are a scenario
-scenario_from : (pool : ℕ) (lines : List Line) → Follow pool [] lines → IsSource (changes_in lines) → length lines ≤ 1000000 → listens_in lines ≤ pool → IsScenario pool lines
-scenario_from pool [] h s few heard = absurd (false_true h)
-scenario_from pool (l ∷ []) h s few heard = absurd (no_end l (first_of_all pool l h.0) h.1)
-scenario_from pool (l ∷ (m ∷ rest)) h s few heard =
+scenario_from : (pool : ℕ) (lines : List Line) → Follow pool [] lines → IsSource (changes_in lines) → length (changes_in lines) ≤ MOST_CHANGES → length lines ≤ 1000000 → listens_in lines ≤ pool → IsScenario pool lines
+scenario_from pool [] h s room few heard = absurd (false_true h)
+scenario_from pool (l ∷ []) h s room few heard = absurd (no_end l (first_of_all pool l h.0) h.1)
+scenario_from pool (l ∷ (m ∷ rest)) h s room few heard =
     let a = first_of_all pool l h.0 in
     let b = second_of_all pool l m h.1.0 in
     let c = body_of pool a.servers b.items (l ∷ (m ∷ [])) rest (open_set a.servers b.items b.queue l m a.is b.is) h.1.1 in
@@ -348,6 +385,7 @@ scenario_from pool (l ∷ (m ∷ rest)) h s few heard =
       queue_fits = b.queue_fits;
       body_fits = c.fits;
       source = s;
+      few_changes = room;
       few_lines = few;
       few_listens = heard;
     }
@@ -357,5 +395,6 @@ valid_lines pool bytes lines h =
     let f = followed pool [] (lines_of bytes) lines h in
     let P : List Line → Type 0 = λ all. IsScenario pool all in
     subst P (sym f.lines_are)
-    (scenario_from pool f.more f.follow (source_follow pool [] f.more (record { rises = λ _. tt }) f.follow) (few_follow pool [] f.more (omega arith) f.follow)
+    (scenario_from pool f.more f.follow (source_follow pool [] f.more (record { rises = λ _. tt }) f.follow)
+    (changes_follow pool [] f.more (omega arith) f.follow) (few_follow pool [] f.more (omega arith) f.follow)
     (listens_follow pool [] f.more (omega arith) f.follow))

@@ -1,6 +1,7 @@
 -- What the lines of a scenario are, said of the lines alone.
 use Rattle.std.specs.Prelude.{◌≡◌, ℕ, ◌≤◌, List, [], ◌∷◌, ◌++◌, length}
 use Rattle.ua_base.specs.declared.modes.SetMode.TheVariants.{Direct}
+use Rattle.set_model.specs.declared.source.TheConstants.{MOST_CHANGES}
 use Rattle.set_model.specs.Source.{IsSource}
 use Rattle.scenario.specs.declared.line.Line.{Line}
 use Rattle.scenario.specs.declared.line.Line.TheVariants as line
@@ -38,5 +39,6 @@ pub record IsScenario (pool : ℕ) (lines : List Line) : Type 0 where
   pub queue_fits : IsFrom 2 1000 queue
   pub body_fits : AllFit servers items body
   pub source : IsSource (changes_in lines)
+  pub few_changes : length (changes_in lines) ≤ MOST_CHANGES
   pub few_lines : length lines ≤ 1000000
   pub few_listens : listens_in lines ≤ pool

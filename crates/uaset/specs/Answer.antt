@@ -1,5 +1,5 @@
 -- What `replay` answers of its input: the report of the world over the scenario's lines.
-use Rattle.std.specs.Prelude.{◌≡◌, ℕ, List, [], ◌∷◌, ◌++◌, Result, Ok, Err}
+use Rattle.std.specs.Prelude.{◌≡◌, ℕ, List, ◌∷◌, Result, Ok, Err}
 use Rattle.set_model.specs.declared.line.LogLine.{LogLine}
 use Rattle.set_model.specs.Report.{report_text}
 use Rattle.delivery_log.specs.History.{Act}

@@ -1,7 +1,6 @@
 -- What `run` promises of each status, by the words, the input's bytes and what is written.
-use Rattle.std.specs.Prelude.{◌≡◌, ℕ, ◌+◌, ◌≤◌, ◌<◌, List, [], ◌∷◌, ◌++◌, Bool, true, false, Option, Some, None, Ok, Err, length, codes, if◌then◌else◌, IfSome}
+use Rattle.std.specs.Prelude.{◌≡◌, ℕ, List, [], ◌∷◌, Bool, true, false, Option, Some, None, Ok, Err, codes, if◌then◌else◌, IfSome}
 use Rattle.std.specs.Str.{bytes_eq}
-use Rattle.set_model.specs.declared.line.LogLine.{LogLine}
 use Rattle.delivery_log.specs.Caused.{Caused}
 use Rattle.delivery_log.specs.Safe.{InOrder, Safe}
 use Rattle.scenario.specs.declared.line.Line.{Line}
@@ -36,6 +35,16 @@ AnswersInPart input before after =
 -- the input's first faulty line is this one, of this kind, where the input is told
 abbrev pub IsFaultOf : ℕ → FaultKind → Option (List ℕ) → Type 0
 IsFaultOf line kind input = IfSome input (λ bytes. scenario_of 0 bytes ≡ Err (record { line = line; kind = kind }))
+
+-- after this status the source has nothing left, where it tells
+abbrev pub IsDrained : Status → Option (List ℕ) → Option (List ℕ) → Type 0
+IsDrained status.Ok before after = IfSome before (λ bytes. after ≡ Some [])
+IsDrained (status.Scenario line kind) before after = IfSome before (λ bytes. after ≡ Some [])
+IsDrained (status.Usage place) before after = Unit {0}
+IsDrained status.ReadFault before after = Unit {0}
+IsDrained status.WriteFault before after = Unit {0}
+IsDrained (status.TooLong bytes) before after = Unit {0}
+IsDrained status.Memory before after = Unit {0}
 
 -- nothing is written where a command ends so
 abbrev pub is_silent : Status → Bool

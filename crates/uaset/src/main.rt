@@ -7,4 +7,52 @@ mod replay;
 mod status;
 mod writing;
 
-fn main() {}
+use command::run;
+use status::{Status, code_of, words_of};
+use std::process::ExitCode;
+use std::{env, io};
+use ua_edge::{ReadSource, WriteSink};
+
+/// Runs the command of these words over standard input and output.
+fn run_words(rt: &HostRuntime, arguments: &[String]) -> Status {
+    let mut words = Vec::new(rt.alloc());
+    for argument in arguments {
+        if words.push(argument.as_str()).is_err() {
+            return Status::Memory;
+        }
+    }
+    let mut input = ReadSource::new(rt.reader());
+    let mut output = WriteSink::new(io::writer(rt));
+    run(rt.alloc(), words.as_slice(), &mut input, &mut output)
+}
+
+/// Runs the command of the program's arguments. One that is no UTF-8 makes a faulty command line.
+fn run_arguments(rt: &HostRuntime) -> Status {
+    let arguments = match env::args(rt) {
+        Ok(arguments) => arguments,
+        Err(error) if error.kind() == io::ErrorKind::OutOfMemory => return Status::Memory,
+        Err(_) => return Status::Usage { place: 0 },
+    };
+    let mut words = Vec::new(rt.alloc());
+    for argument in arguments.skip(1) {
+        if words.push(argument).is_err() {
+            return Status::Memory;
+        }
+    }
+    run_words(rt, words.as_slice())
+}
+
+fn main(rt: HostRuntime) -> ExitCode {
+    let status = run_arguments(&rt);
+    if status != Status::Ok {
+        match words_of(rt.alloc(), &status) {
+            Ok(words) => {
+                let _ = eprintln!(&rt; "{words}");
+            }
+            Err(_) => {
+                let _ = eprintln!(&rt; "out of memory");
+            }
+        }
+    }
+    ExitCode::from(code_of(&status))
+}

@@ -17,7 +17,11 @@ pub(crate) enum ReadStop {
 const PIECE: usize = 65_536;
 
 /// Reads a source to its end, or until it gave more than `most` bytes.
-pub(crate) fn read_all<I: Source>(alloc: Global, input: &mut I, most: usize) -> Result<Vec<u8>, ReadStop>
+pub(crate) fn read_all<I: Source>(
+    alloc: Global,
+    input: &mut I,
+    most: usize,
+) -> Result<Vec<u8>, ReadStop>
     requires { most < 2 ^ 32 }
     ensures all { IfOk result (λ bytes. HasTakenAll (I.left input.old) (I.left input.new) bytes.items) }
     ensures most { IfOk result (λ bytes. length bytes.items ≤ most) }

@@ -1,5 +1,5 @@
 use Rattle.std.proofs.Common.{arith, rules}
-use Rattle.uaset.proofs.Pieces.{none_appended, more_appended, all_appended}
+use Rattle.uaset.proofs.Pieces.{none_appended, more_appended}
 use Rattle.uaset.proofs.writing.write_all.Goals as goal
 
 pub loop-rest-init : goal.loop-rest-init

@@ -1,0 +1,48 @@
+-- The log of a scenario's lines can be trusted.
+use Rattle.std.proofs.Common.{◌≡◌, ℕ, ◌≤◌, List, Ok, Err, refl, sym, ap, subst, ◌∙◌, arith}
+use Rattle.std.specs.Prelude.{Option, Some, None, Result}
+use Rattle.set_model.specs.declared.source.Change.{Change}
+use Rattle.delivery_log.specs.Safe.{InOrder, Safe}
+use Rattle.scenario.specs.declared.line.Line.{Line}
+use Rattle.scenario.specs.declared.fault.ScenarioFault.{ScenarioFault}
+use Rattle.scenario.specs.Scenario.{scenario_of}
+use Rattle.scenario.proofs.ValidLemmas.{valid_lines}
+use Rattle.direct_world.proofs.Law.{world_changes, world_safe, world_in_order, world_caused}
+use Rattle.uaset.specs.Answer.{answer_of, answer_by, client_log, size_of}
+use Rattle.uaset.specs.Edges.{HasTakenAll}
+use Rattle.uaset.specs.Run.{IsTrustworthy, SpellsTrustworthy}
+
+-- a scenario's queues have from 2 to 1000 places
+pub queue_fits : (pool : ℕ) (bytes : List ℕ) (lines : List Line) → scenario_of pool bytes ≡ Ok lines
+    → (2 ≤ (size_of lines).queue) × ((size_of lines).queue ≤ 1000)
+queue_fits pool bytes lines h =
+    let valid = valid_lines pool bytes lines h in
+    let is : (size_of lines).queue ≡ valid.queue = ap (λ (ls : List Line). (size_of ls).queue) valid.lines_are in
+    (omega (arith, valid.queue_fits.0), omega (arith, valid.queue_fits.1))
+
+-- the log of a scenario's lines is safe for the scenario's changes, and each gap has its true cause
+pub trustworthy : (pool : ℕ) (bytes : List ℕ) (lines : List Line) → scenario_of pool bytes ≡ Ok lines → IsTrustworthy lines
+trustworthy pool bytes lines h =
+    let valid = valid_lines pool bytes lines h in
+    let size = size_of lines in
+    let two : 2 ≤ size.queue = (queue_fits pool bytes lines h).0 in
+    let source = world_changes size.servers size.items size.queue lines valid.source valid.few_changes in
+    let P : List Change → Type 0 = λ s. Safe s (client_log lines) in
+    let Q : List Change → Type 0 = λ s. InOrder s (client_log lines) in
+    record {
+      safe = subst P source (world_safe size.servers size.items size.queue lines two);
+      order = subst Q source (world_in_order size.servers size.items size.queue lines two);
+      caused = world_caused size.servers size.items size.queue lines two;
+    }
+
+answered : (pool : ℕ) (bytes text : List ℕ) (scenario : Result (List Line) ScenarioFault) → scenario_of pool bytes ≡ scenario → answer_by scenario ≡ Ok text
+    → (lines : List Line) × (scenario_of pool bytes ≡ Ok lines) × IsTrustworthy lines
+answered pool bytes text (Ok lines) is h = (lines, is, trustworthy pool bytes lines is)
+answered pool bytes text (Err fault) is h = absurd cc
+
+-- an input that has a report spells a scenario whose log can be trusted
+pub spells_trustworthy : (before after : Option (List ℕ)) (bytes shown text : List ℕ) → HasTakenAll before after bytes → shown ≡ bytes → answer_of shown ≡ Ok text
+    → SpellsTrustworthy before
+spells_trustworthy None after bytes shown text h same is = tt
+spells_trustworthy (Some all) after bytes shown text h same is =
+    answered 0 all text (scenario_of 0 all) refl (ap answer_of (h.0 ∙ sym same) ∙ is)
