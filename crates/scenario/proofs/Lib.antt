@@ -3,3 +3,5 @@ pub mod PastLemmas
 pub mod FaultLemmas
 pub mod CapLemmas
 pub mod ValidLemmas
+pub mod NumeralLemmas
+pub mod GrammarLemmas

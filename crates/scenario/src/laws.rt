@@ -1,6 +1,8 @@
 //! What holds of every scenario, as contracts of functions that do nothing.
-ghost use Rattle.std.specs.Prelude.{◌≡◌, ℕ, List, Ok};
+ghost use Rattle.std.specs.Prelude.{◌≡◌, ℕ, List, Ok, Some};
+ghost use Rattle.scenario.specs.declared.form.Form.{Form};
 ghost use Rattle.scenario.specs.declared.line.Line.{Line};
+ghost use Rattle.scenario.specs.Grammar.{form_of, form_text};
 ghost use Rattle.scenario.specs.Scenario.{scenario_of};
 ghost use Rattle.scenario.specs.Valid.{IsScenario};
 
@@ -8,3 +10,10 @@ ghost use Rattle.scenario.specs.Valid.{IsScenario};
 pub fn valid_lines()
     ensures { (pool : ℕ) (bytes : List ℕ) (lines : List Line) → scenario_of pool bytes ≡ Ok lines → IsScenario pool lines }
 {}
+
+/// The language is canonical: a text has a form exactly where it is that form's one spelling.
+pub fn grammar()
+    ensures read_is_spelled { (text : List ℕ) (form : Form) → form_of text ≡ Some form → form_text form ≡ text }
+    ensures spelled_is_read { (form : Form) → form_of (form_text form) ≡ Some form }
+{
+}
