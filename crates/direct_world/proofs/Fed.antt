@@ -1,22 +1,19 @@
 -- What each queue of each server owes the law of the log: its entries are changes of the source in order, and go on
 -- from the entry that was taken last where their joint is Joined.
-use Rattle.std.proofs.Common.{◌≡◌, ◌≢◌, ◌==◌, ◌&&◌, ℕ, zero, suc, ◌+◌, ◌-◌, ◌<◌, ◌≤◌, ℤ, List, [], ◌∷◌, ◌++◌, Bool, true, false, cond, Option, Some, None, length, take, drop, refl, sym, ap, subst, ◌∙◌, arith, slice_set}
+use Rattle.std.proofs.Common.{◌≡◌, ◌≢◌, ◌==◌, ◌&&◌, ℕ, ◌+◌, ◌≤◌, List, ◌∷◌, Bool, true, false, Option, Some, None, length, refl, sym, ap, subst, ◌∙◌, arith}
 use Rattle.std.specs.Prelude.{slice_get, IsSomeAnd, if◌then◌else◌}
 use Rattle.std.proofs.lemmas.Bool.Decides.{nat_tests}
 use Rattle.ua_base.specs.declared.status.TheConstants.{OVERFLOW_BITS}
 use Rattle.set_model.specs.declared.source.Change.{Change}
 use Rattle.set_model.specs.declared.line.Arrived.{Arrived}
-use Rattle.set_model.specs.declared.line.Seen.TheVariants.{Whole}
 use Rattle.set_model.specs.Source.{of_item}
 use Rattle.item_queue.specs.declared.queue.Entry.{Entry}
 use Rattle.item_queue.specs.State.{QueueState}
 use Rattle.delivery_log.specs.declared.rule.Joint.{Joint}
 use Rattle.delivery_log.specs.declared.rule.Joint.TheVariants.{Joined}
 use Rattle.delivery_log.specs.Judge.{has_overflow, joint_after}
-use Rattle.delivery_log.specs.Safe.{IsChangeAt}
 use Rattle.delivery_log.specs.History.{Act, Enter, Set, joint_of, previous}
-use Rattle.delivery_log.specs.WellFed.{IsAt, IsFedEntry, IsFedAct, Linked, IsLinkedAct, WellFed}
-use Rattle.direct_world.specs.State.{ServerState}
+use Rattle.delivery_log.specs.WellFed.{IsAt, IsFedEntry, Linked}
 use Rattle.direct_world.specs.Server.{arrived}
 use Rattle.direct_world.proofs.Held.{HeldFrom}
 

@@ -1,15 +1,14 @@
 -- What feeding a server keeps: each queue goes on where its item's changes go on.
-use Rattle.std.proofs.Common.{◌≡◌, ◌≢◌, ◌==◌, ◌&&◌, ℕ, zero, suc, ◌+◌, ◌-◌, ◌<◌, ◌≤◌, List, [], ◌∷◌, ◌++◌, Bool, true, false, cond, Option, Some, None, length, take, drop, refl, sym, ap, subst, ◌∙◌, arith, slice_set, slice_index_or}
+use Rattle.std.proofs.Common.{◌≡◌, ◌≢◌, ◌==◌, ◌&&◌, ℕ, zero, suc, ◌+◌, ◌-◌, ◌<◌, ◌≤◌, List, [], ◌∷◌, ◌++◌, Bool, true, false, cond, Some, None, length, refl, sym, ap, subst, ◌∙◌, arith, slice_set}
 use Rattle.std.specs.Prelude.{slice_get, if◌then◌else◌, nat_le}
 use Rattle.std.proofs.lemmas.Bool.Decides.{nat_tests}
-use Rattle.std.proofs.lemmas.List.{append_assoc, append-nil, length-append, length-set}
+use Rattle.std.proofs.lemmas.List.{append_assoc, append-nil, length-append}
 use Rattle.std.proofs.lemmas.List.Elements.{filter-append}
-use Rattle.std.proofs.lemmas.Option.{slice_get-get_or}
 use Rattle.set_model.specs.declared.source.Change.{Change}
 use Rattle.set_model.specs.Source.{of_item}
 use Rattle.set_model.proofs.SourceLemmas.{of_item-more}
 use Rattle.item_queue.specs.State.{QueueState}
-use Rattle.item_queue.specs.Queue.{pushed, empty_queue}
+use Rattle.item_queue.specs.Queue.{pushed}
 use Rattle.delivery_log.specs.History.{Act}
 use Rattle.direct_world.specs.Server.{place_in, queue_at, pushed_at, pushed_all}
 use Rattle.direct_world.proofs.Held.{HeldFrom, held_push}

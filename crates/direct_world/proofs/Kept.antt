@@ -1,5 +1,5 @@
 -- The log that a world keeps is the log of its history, whose acts are of its servers and items.
-use Rattle.std.proofs.Common.{◌≡◌, ℕ, zero, suc, ◌+◌, ◌<◌, ◌≤◌, List, [], ◌∷◌, length, take, refl, ap, ◌∙◌, arith}
+use Rattle.std.proofs.Common.{◌≡◌, ℕ, zero, suc, ◌+◌, ◌≤◌, List, [], ◌∷◌, length, take, refl, ap, ◌∙◌, arith}
 use Rattle.item_queue.specs.declared.queue.Entry.{Entry}
 use Rattle.item_queue.specs.State.{QueueState}
 use Rattle.set_model.specs.declared.line.GapCause.TheVariants.{Late}

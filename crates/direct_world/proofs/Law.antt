@@ -1,11 +1,11 @@
 -- The law of the direct world: whatever lines come, the history of its log is well fed.
-use Rattle.std.proofs.Common.{◌≡◌, ◌≢◌, ℕ, zero, suc, ◌+◌, ◌-◌, ◌<◌, ◌≤◌, ◌&&◌, List, [], ◌∷◌, ◌++◌, Bool, true, false, Option, Some, None, length, take, drop, refl, sym, ap, subst, ◌∙◌, arith, slice_set}
+use Rattle.std.proofs.Common.{◌≡◌, ℕ, zero, suc, ◌+◌, ◌-◌, ◌<◌, ◌≤◌, ◌&&◌, List, [], ◌∷◌, ◌++◌, Bool, true, false, Option, Some, None, length, take, refl, sym, ap, subst, ◌∙◌, arith, slice_set}
 use Rattle.std.specs.Prelude.{if◌then◌else◌, nat_le, replicate}
 use Rattle.std.proofs.lemmas.List.{append_assoc, append-nil, length-append, length-set, length-map, length-replicate}
 use Rattle.std.proofs.lemmas.Bool.Decides.{nat_tests}
 use Rattle.set_model.specs.declared.source.Change.{Change}
 use Rattle.set_model.specs.declared.source.SourceFault.{SourceFault}
-use Rattle.set_model.specs.Source.{IsSource, refusal, of_item}
+use Rattle.set_model.specs.Source.{IsSource, refusal}
 use Rattle.set_model.specs.declared.source.TheConstants.{MOST_CHANGES}
 use Rattle.set_model.proofs.SourceLemmas.{source_more, allowed_after, allowed_in_source}
 use Rattle.item_queue.specs.Queue.{empty_queue, without_oldest}
@@ -24,8 +24,8 @@ use Rattle.scenario.specs.declared.line.Line.{Line}
 use Rattle.scenario.specs.declared.line.Line.TheVariants as line
 use Rattle.scenario.specs.Past.{changes_in, change_of}
 use Rattle.direct_world.specs.State.{ServerState, WorldState}
-use Rattle.direct_world.specs.Server.{place_in, new_server, fed, left_after, log_after, stopped, started}
-use Rattle.direct_world.specs.World.{after, after_all, appended, appended_unless, at_server, at_place, fed_at, new_world, server_at, started_at, stopped_at, taken_at, taken_if, reopened}
+use Rattle.direct_world.specs.Server.{place_in, new_server, fed, left_after, log_after, started}
+use Rattle.direct_world.specs.World.{after, after_all, appended, appended_unless, at_place, fed_at, new_world, server_at, started_at, stopped_at, taken_at, taken_if, reopened}
 use Rattle.direct_world.specs.History.{with_line, with_lines, history_of, taking, taking_if, taking_at, reopening, reopening_at}
 use Rattle.direct_world.proofs.Fed.{same_at}
 use Rattle.direct_world.proofs.Taking.{QueuesFed, takes_queues}
@@ -208,7 +208,7 @@ step_take_if : (source : List Change) (n m place count : ℕ) (running : Bool) (
 step_take_if source n m place count false w history under h = h
 step_take_if source n m place count true w history under h = step_take source n m place (place + 1) count w history under (omega arith) h
 
-place_within : (number count place : ℕ) (low high : Bool) → nat_le 1 number ≡ low → nat_le number count ≡ high
+pub place_within : (number count place : ℕ) (low high : Bool) → nat_le 1 number ≡ low → nat_le number count ≡ high
     → (if low && high then Some (number - 1) else None) ≡ Some place → place < count
 place_within number count place true true l u h =
     let is : number - 1 ≡ place = cc in

@@ -7,3 +7,4 @@ pub mod Starting
 pub mod Servers
 pub mod Kept
 pub mod Law
+pub mod Boots

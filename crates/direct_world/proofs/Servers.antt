@@ -1,17 +1,15 @@
 -- What the servers of a world owe, and what a line of one server keeps of it.
-use Rattle.std.proofs.Common.{◌≡◌, ◌≢◌, ℕ, zero, suc, ◌+◌, ◌-◌, ◌<◌, ◌≤◌, List, [], ◌∷◌, ◌++◌, Bool, true, false, Option, Some, None, length, take, drop, map, refl, sym, ap, subst, ◌∙◌, arith, slice_set, slice_index_or}
+use Rattle.std.proofs.Common.{◌≡◌, ◌≢◌, ℕ, zero, suc, ◌+◌, ◌<◌, ◌≤◌, List, [], ◌∷◌, ◌++◌, Bool, true, false, Option, Some, None, length, take, drop, refl, sym, ap, subst, ◌∙◌, arith, slice_set}
 use Rattle.std.specs.Prelude.{if◌then◌else◌}
-use Rattle.std.proofs.lemmas.List.{append_assoc, length-append, length-set, length-map, take-append-drop, drop-append-le, length-take, length-drop}
+use Rattle.std.proofs.lemmas.List.{append_assoc, length-append, length-set, take-append-drop, drop-append-le, length-take, length-drop}
 use Rattle.std.proofs.Math.Seq.{take-append_seam}
 use Rattle.set_model.specs.declared.source.Change.{Change}
-use Rattle.set_model.specs.Source.{last_of}
 use Rattle.item_queue.specs.State.{QueueState}
-use Rattle.item_queue.specs.Queue.{without_oldest}
 use Rattle.delivery_log.specs.declared.rule.Joint.TheVariants.{Open}
 use Rattle.set_model.specs.declared.line.GapCause.TheVariants.{Late}
 use Rattle.delivery_log.specs.History.{Act, joint_of}
 use Rattle.direct_world.specs.State.{ServerState}
-use Rattle.direct_world.specs.Server.{place_in, queue_at, pushed_at, pushed_all, fed, fed_with, stopped, started, opened_from, left_after}
+use Rattle.direct_world.specs.Server.{place_in, pushed_at, pushed_all, fed, fed_with, stopped, started, opened_from}
 use Rattle.direct_world.specs.World.{server_at}
 use Rattle.direct_world.proofs.Fed.{SameAt}
 use Rattle.direct_world.proofs.Taking.{QueuesFed, queues_elsewhere}

@@ -1,9 +1,9 @@
 -- The shape of a world stays as it is.
-use Rattle.std.proofs.Common.{◌≡◌, ℕ, zero, suc, ◌+◌, ◌<◌, List, [], ◌∷◌, length, refl, sym, ap, subst, ◌^◌, ◌∙◌, arith, slice_index_or, slice_set, None, Option, ℤ}
+use Rattle.std.proofs.Common.{◌≡◌, ℕ, zero, suc, ◌<◌, List, [], ◌∷◌, length, sym, ap, subst, ◌^◌, ◌∙◌, arith, slice_index_or, slice_set, None, Option, ℤ}
 use Rattle.std.specs.Prelude.{replicate}
 use Rattle.std.proofs.lemmas.List.{length-set, length-replicate}
 use Rattle.delivery_log.specs.State.{LogState}
-use Rattle.delivery_log.specs.Log.{new_log, late_joints}
+use Rattle.delivery_log.specs.Log.{new_log}
 use Rattle.direct_world.specs.State.{ServerState}
 use Rattle.direct_world.specs.Server.{new_server}
 use Rattle.direct_world.specs.Shape.{HaveQueues, IsShaped}

@@ -1,5 +1,5 @@
 -- The life of a direct server: what it is given, and what the client takes from its queues.
-use Rattle.std.specs.Prelude.{ℕ, ◌+◌, ◌-◌, ◌^◌, List, [], ◌∷◌, Bool, true, false, ◌&&◌, Option, Some, None, length, take, drop, map, replicate, min, nat_le, if◌then◌else◌, slice_index_or, slice_set}
+use Rattle.std.specs.Prelude.{ℕ, ◌+◌, ◌-◌, ◌^◌, List, [], ◌∷◌, true, false, ◌&&◌, Option, Some, None, length, take, drop, map, replicate, min, nat_le, if◌then◌else◌, slice_index_or, slice_set}
 use Rattle.ua_base.specs.declared.status.TheConstants.{OVERFLOW_BITS}
 use Rattle.set_model.specs.declared.source.Change.{Change}
 use Rattle.set_model.specs.declared.line.Arrived.{Arrived}

@@ -1,5 +1,5 @@
 -- The world of direct servers, line by line.
-use Rattle.std.specs.Prelude.{ℕ, ◌+◌, List, [], ◌∷◌, ◌++◌, Bool, true, false, Option, Some, None, length, replicate, if◌then◌else◌, slice_index_or, slice_set, zero, suc}
+use Rattle.std.specs.Prelude.{ℕ, ◌+◌, List, [], ◌∷◌, ◌++◌, Bool, true, false, Option, Some, None, length, replicate, slice_index_or, slice_set, zero, suc}
 use Rattle.set_model.specs.declared.source.Change.{Change}
 use Rattle.set_model.specs.declared.source.SourceFault.{SourceFault}
 use Rattle.set_model.specs.declared.line.GapCause.TheVariants.{Late}

@@ -1,16 +1,16 @@
 //! What the world of direct servers comes to, whatever lines come. Each law is the contract of a function that does
 //! nothing; worlds here are of fewer than 256 servers and items, with queues of at least two entries.
-ghost use Rattle.std.specs.Prelude.{◌≡◌, ℕ, ◌≤◌, List, length};
+ghost use Rattle.std.specs.Prelude.{◌≡◌, ℕ, ◌≤◌, ◌+◌, ◌-◌, ◌^◌, ◌<◌, List, length, min};
 ghost use Rattle.set_model.specs.Source.{IsSource};
 ghost use Rattle.delivery_log.specs.Caused.{Caused};
 ghost use Rattle.delivery_log.specs.History.{lines_of};
 ghost use Rattle.delivery_log.specs.Safe.{InOrder, Safe};
 ghost use Rattle.delivery_log.specs.WellFed.{WellFed};
 ghost use Rattle.set_model.specs.declared.source.TheConstants.{MOST_CHANGES};
-ghost use Rattle.scenario.specs.Past.{changes_in};
+ghost use Rattle.scenario.specs.Past.{boot_of, changes_in};
 ghost use Rattle.scenario.specs.declared.line.Line.{Line};
 ghost use Rattle.direct_world.specs.History.{history_of};
-ghost use Rattle.direct_world.specs.World.{after_all, new_world};
+ghost use Rattle.direct_world.specs.World.{after_all, new_world, server_at};
 
 /// The log's lines are those of its history, which is well fed by the world's source; and that is a source.
 pub fn history_is_well_fed()
@@ -19,6 +19,13 @@ pub fn history_is_well_fed()
         (after_all lines (new_world servers items queue)).log.lines ≡ lines_of (history_of servers items queue lines) }
     ensures fed { (servers items queue : ℕ) (lines : List Line) → 2 ≤ queue →
         WellFed (after_all lines (new_world servers items queue)).source (history_of servers items queue lines) }
+{}
+
+/// Each server's boot number is one more than its starts, up to the last value of its type, which no scenario passes:
+/// so no two lives of a server have the same.
+pub fn starts_give_boot_numbers()
+    ensures { (servers items queue : ℕ) (lines : List Line) (place : ℕ) → place < servers →
+        (server_at place (after_all lines (new_world servers items queue)).servers).boot ≡ min (boot_of (place + 1) lines) (2 ^ 16 - 1) }
 {}
 
 /// Where all changes of the lines together are a source that is not too long, they are the world's one source.

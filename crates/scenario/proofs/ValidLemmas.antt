@@ -22,11 +22,11 @@ use Rattle.scenario.specs.declared.fault.FaultKind.TheVariants as kind
 use Rattle.scenario.specs.declared.fault.ScenarioFault.{ScenarioFault}
 use Rattle.scenario.specs.declared.reader.TheConstants.{MOST_LINES}
 use Rattle.scenario.specs.Words.{lines_of}
-use Rattle.scenario.specs.Past.{servers_of, items_of, servers_in, items_in, change_of, changes_in, ends, has_ended, listens, listens_in, attached_in}
+use Rattle.scenario.specs.Past.{servers_of, items_of, servers_in, items_in, change_of, changes_in, ends, has_ended, starts, boot_of, listens, listens_in, attached_in}
 use Rattle.scenario.specs.Faults.{is_within, is_direct, kind_of_refusal, the_change, line_of, judged}
 use Rattle.scenario.specs.Scenario.{kind_at_end, go_on, valid_from, scenario_of}
 use Rattle.scenario.specs.Valid.{IsFrom, Fits, AllFit, IsScenario}
-use Rattle.scenario.proofs.PastLemmas.{changes_in-more, servers_in-more, items_in-more, has_ended-more, listens_in-more}
+use Rattle.scenario.proofs.PastLemmas.{changes_in-more, servers_in-more, items_in-more, has_ended-more, boot_of-more, listens_in-more}
 use Rattle.scenario.proofs.FaultLemmas.{Passes, taken, within_range}
 
 -- a line was taken after these, from some text
@@ -102,6 +102,39 @@ listens_follow pool before (l ∷ ls) few h =
     let left : listens_in before + cond (listens l) 1 0 ≤ pool = subst Q t.line_is (listens_left pool before t.f t.passes few) in
     let e : listens_in (before ++ l ∷ []) ≡ listens_in before + cond (listens l) 1 0 = listens_in-more before l in
     subst P (append_assoc before (l ∷ []) ls) (listens_follow pool (before ++ l ∷ []) ls (omega arith) h.1)
+
+start_left : (other server : ℕ) (before : List Line) (b : Bool) → (other == server) ≡ b → nat_le 65535 (boot_of other before) ≡ false
+    → boot_of server before ≤ 65535 → boot_of server before + cond b 1 0 ≤ 65535
+start_left other server before false is less few = omega arith
+start_left other server before true is less few =
+    let same : other ≡ server = grind (arith, nat_tests) in
+    let boots : boot_of other before ≡ boot_of server before = ap (λ s. boot_of s before) same in
+    let under : boot_of other before < 65535 = grind (arith, nat_tests) in
+    omega arith
+
+-- a start that is taken finds a boot number
+boots_left : (pool server : ℕ) (before : List Line) (f : Form) → Passes pool before f → boot_of server before ≤ 65535
+    → boot_of server before + cond (starts server (line_of f)) 1 0 ≤ 65535
+boots_left pool server before (form.Set mode servers) h few = omega arith
+boots_left pool server before (form.Items items queue) h few = omega arith
+boots_left pool server before (form.Change item time value) h few = omega arith
+boots_left pool server before (form.Feed other count) h few = omega arith
+boots_left pool server before (form.Take other count) h few = omega arith
+boots_left pool server before (form.Stop other) h few = omega arith
+boots_left pool server before (form.Start other) h few = start_left other server before _ refl h.boots few
+boots_left pool server before (form.Listen item) h few = omega arith
+boots_left pool server before (form.Unlisten id) h few = omega arith
+boots_left pool server before form.End h few = omega arith
+
+pub boots_follow : (pool server : ℕ) (before more : List Line) → boot_of server before ≤ 65535 → Follow pool before more → boot_of server (before ++ more) ≤ 65535
+boots_follow pool server before [] few h = rw (append-nil before) few
+boots_follow pool server before (l ∷ ls) few h =
+    let t = taken pool before h.0.text l h.0.is in
+    let P : List Line → Type 0 = λ all. boot_of server all ≤ 65535 in
+    let Q : Line → Type 0 = λ m. boot_of server before + cond (starts server m) 1 0 ≤ 65535 in
+    let left : boot_of server before + cond (starts server l) 1 0 ≤ 65535 = subst Q t.line_is (boots_left pool server before t.f t.passes few) in
+    let e : boot_of server (before ++ l ∷ []) ≡ boot_of server before + cond (starts server l) 1 0 = boot_of-more server before l in
+    subst P (append_assoc before (l ∷ []) ls) (boots_follow pool server (before ++ l ∷ []) ls (omega arith) h.1)
 
 -- a change of which the source has no fault is not refused
 none_after : (late same : Bool) (time : ℤ) → kind_of_refusal (cond late (Some (source.TimeNotRising time)) (cond same (Some source.SameValue) None)) ≡ None
@@ -366,10 +399,11 @@ no_end l f h =
     false_true (subst P f.is h)
 
 -- lines that follow one another from the first on are a scenario
-scenario_from : (pool : ℕ) (lines : List Line) → Follow pool [] lines → IsSource (changes_in lines) → length (changes_in lines) ≤ MOST_CHANGES → length lines ≤ 1000000 → listens_in lines ≤ pool → IsScenario pool lines
-scenario_from pool [] h s room few heard = absurd (false_true h)
-scenario_from pool (l ∷ []) h s room few heard = absurd (no_end l (first_of_all pool l h.0) h.1)
-scenario_from pool (l ∷ (m ∷ rest)) h s room few heard =
+scenario_from : (pool : ℕ) (lines : List Line) → Follow pool [] lines → IsSource (changes_in lines) → length (changes_in lines) ≤ MOST_CHANGES → length lines ≤ 1000000 → listens_in lines ≤ pool
+    → ((server : ℕ) → boot_of server lines ≤ 65535) → IsScenario pool lines
+scenario_from pool [] h s room few heard boots = absurd (false_true h)
+scenario_from pool (l ∷ []) h s room few heard boots = absurd (no_end l (first_of_all pool l h.0) h.1)
+scenario_from pool (l ∷ (m ∷ rest)) h s room few heard boots =
     let a = first_of_all pool l h.0 in
     let b = second_of_all pool l m h.1.0 in
     let c = body_of pool a.servers b.items (l ∷ (m ∷ [])) rest (open_set a.servers b.items b.queue l m a.is b.is) h.1.1 in
@@ -388,6 +422,7 @@ scenario_from pool (l ∷ (m ∷ rest)) h s room few heard =
       few_changes = room;
       few_lines = few;
       few_listens = heard;
+      few_boots = boots;
     }
 
 pub valid_lines : (pool : ℕ) (bytes : List ℕ) (lines : List Line) → scenario_of pool bytes ≡ Ok lines → IsScenario pool lines
@@ -397,4 +432,4 @@ valid_lines pool bytes lines h =
     subst P (sym f.lines_are)
     (scenario_from pool f.more f.follow (source_follow pool [] f.more (record { rises = λ _. tt }) f.follow)
     (changes_follow pool [] f.more (omega arith) f.follow) (few_follow pool [] f.more (omega arith) f.follow)
-    (listens_follow pool [] f.more (omega arith) f.follow))
+    (listens_follow pool [] f.more (omega arith) f.follow) (λ server. boots_follow pool server [] f.more (omega arith) f.follow))

@@ -5,7 +5,7 @@ use Rattle.set_model.specs.declared.source.TheConstants.{MOST_CHANGES}
 use Rattle.set_model.specs.Source.{IsSource}
 use Rattle.scenario.specs.declared.line.Line.{Line}
 use Rattle.scenario.specs.declared.line.Line.TheVariants as line
-use Rattle.scenario.specs.Past.{changes_in, listens_in}
+use Rattle.scenario.specs.Past.{boot_of, changes_in, listens_in}
 
 abbrev pub IsFrom : ℕ → ℕ → ℕ → Type 0
 IsFrom low high number = (low ≤ number) × (number ≤ high)
@@ -27,7 +27,7 @@ abbrev pub AllFit : ℕ → ℕ → List Line → Type 0
 AllFit servers items [] = Unit {0}
 AllFit servers items (l ∷ ls) = Fits servers items l × AllFit servers items ls
 
--- the set, the items, lines that fit them, and `end`; all changes together are a source
+-- the set, the items, lines that fit them, and `end`; all changes together are a source; no server's boot number passes its type
 pub record IsScenario (pool : ℕ) (lines : List Line) : Type 0 where
   pub servers : ℕ
   pub items : ℕ
@@ -42,3 +42,4 @@ pub record IsScenario (pool : ℕ) (lines : List Line) : Type 0 where
   pub few_changes : length (changes_in lines) ≤ MOST_CHANGES
   pub few_lines : length lines ≤ 1000000
   pub few_listens : listens_in lines ≤ pool
+  pub few_boots : (server : ℕ) → boot_of server lines ≤ 65535

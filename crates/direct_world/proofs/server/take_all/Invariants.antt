@@ -1,4 +1,4 @@
-use Rattle.std.proofs.Common.{◌≡◌, ◌+◌, ◌++◌, take, drop, length, List}
+use Rattle.std.proofs.Common.{◌≡◌, ◌+◌, ◌++◌, take, drop, length}
 use Rattle.direct_world.specs.Server.{left_after, log_after}
 use Rattle.direct_world.proofs.server.take_all.Given as goal
 

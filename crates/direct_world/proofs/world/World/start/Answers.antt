@@ -1,4 +1,4 @@
-use Rattle.std.proofs.Common.{◌<◌, ◌≤◌, length, rules, arith}
+use Rattle.std.proofs.Common.{◌<◌, length, rules, arith}
 use Rattle.direct_world.proofs.Shapes.{shaped_set, shaped_log, shaped_at}
 use Rattle.direct_world.proofs.world.World.start.Goals as goal
 

@@ -1,4 +1,4 @@
-use Rattle.std.proofs.Common.{◌<◌, ◌≤◌, length, rules, arith}
+use Rattle.std.proofs.Common.{◌<◌, length, rules}
 use Rattle.direct_world.proofs.Shapes.{shaped_set}
 use Rattle.direct_world.proofs.world.World.stop.Goals as goal
 
