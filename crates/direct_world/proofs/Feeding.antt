@@ -67,8 +67,9 @@ fed_others source history server item front c [] off h = tt
 fed_others source history server item front c (queue ∷ queues) off h =
     let here : c.item ≢ item = off item (omega arith) (omega arith) in
     let apart : (c.item == item) ≡ false = grind (arith, nat_tests) in (
-    fed_other source history server item front c queue apart h.0,
-    fed_others source history server (item + 1) front c queues (λ i le under. off i (omega arith) (omega arith)) h.1)
+      fed_other source history server item front c queue apart h.0,
+      fed_others source history server (item + 1) front c queues (λ i le under. off i (omega arith) (omega arith)) h.1,
+    )
 
 fed_place : (source : List Change) (history : List Act) (server item place : ℕ) (front : List Change) (c : Change) (rest : List Change) (queues : List QueueState)
     → source ≡ front ++ c ∷ rest → c.item ≡ item + place → place < length queues
@@ -77,12 +78,14 @@ fed_place : (source : List Change) (history : List Act) (server item place : ℕ
 fed_place source history server item place front c rest [] whole is under h = absurd (omega arith)
 fed_place source history server item zero front c rest (queue ∷ queues) whole is under h =
     let same : (c.item == item) ≡ true = grind (arith, nat_tests) in (
-    fed_own source history server item front c rest queue whole same h.0,
-    fed_others source history server (item + 1) front c queues (λ i le within e. absurd (omega arith)) h.1)
+      fed_own source history server item front c rest queue whole same h.0,
+      fed_others source history server (item + 1) front c queues (λ i le within e. absurd (omega arith)) h.1,
+    )
 fed_place source history server item (suc place) front c rest (queue ∷ queues) whole is under h =
     let apart : (c.item == item) ≡ false = grind (arith, nat_tests) in (
-    fed_other source history server item front c queue apart h.0,
-    fed_place source history server (item + 1) place front c rest queues whole (omega arith) (omega arith) h.1)
+      fed_other source history server item front c queue apart h.0,
+      fed_place source history server (item + 1) place front c rest queues whole (omega arith) (omega arith) h.1,
+    )
 
 -- one change goes into its queue, if there is one
 fed_one : (source : List Change) (history : List Act) (server : ℕ) (front : List Change) (c : Change) (rest : List Change) (queues : List QueueState) (low high : Bool)
@@ -110,5 +113,5 @@ fed_all source history server front (c ∷ changes) rest queues whole h =
     let one = fed_one source history server front c (changes ++ rest) queues _ _ refl refl whole h in
     let P : List Change → Type 0 = λ f. QueuesFed source history server 1 f (pushed_all (c ∷ changes) queues) in
     subst P (append_assoc front (c ∷ []) changes)
-      (fed_all source history server (front ++ c ∷ []) changes rest (pushed_at (place_in c.item (length queues)) c queues)
-        (whole ∙ sym (append_assoc front (c ∷ []) (changes ++ rest))) one)
+    (fed_all source history server (front ++ c ∷ []) changes rest (pushed_at (place_in c.item (length queues)) c queues)
+    (whole ∙ sym (append_assoc front (c ∷ []) (changes ++ rest))) one)

@@ -88,7 +88,7 @@ line_is_source (line.Feed server count) w h = let P : List Change → Type 0 = I
     subst P (sym (server_keeps_source (place_in server (length w.servers)) (fed_at count) w (λ p. refl))) h
 line_is_source (line.Take server count) w h = let P : List Change → Type 0 = IsSource in
     subst P (sym (server_keeps_source (place_in server (length w.servers)) (taken_at count) w
-      (λ p. taken_keeps_source (server_at p w.servers).running p count (server_at p w.servers) w))) h
+    (λ p. taken_keeps_source (server_at p w.servers).running p count (server_at p w.servers) w))) h
 line_is_source (line.Stop server) w h = let P : List Change → Type 0 = IsSource in
     subst P (sym (server_keeps_source (place_in server (length w.servers)) stopped_at w (λ p. refl))) h
 line_is_source (line.Start server) w h = let P : List Change → Type 0 = IsSource in
@@ -120,7 +120,7 @@ step_feed source n m place count w history goes under h =
     let P : List Change → Type 0 = λ s. ServerFed s w.source history m (1 + place) (server_at place w.servers) in
     let Q : List Change → Type 0 = λ s. ServerFed s w.source history m (1 + place) (fed count w.source (server_at place w.servers)) in
     let own = subst Q (sym goes.is) (feeds w.source goes.more history m (1 + place) count (server_at place w.servers)
-        (subst P goes.is (servers_at source w.source history m 1 place w.servers under h.servers))) in
+    (subst P goes.is (servers_at source w.source history m 1 place w.servers under h.servers))) in
     record {
       count = length-set w.servers place _ ∙ h.count;
       servers = servers_set source w.source history history m 1 place w.servers _ (λ s i off. same_at s i history) under own h.servers;
@@ -164,7 +164,7 @@ step_start source n m place number items w history goes under is same h =
     let R : ℕ → Type 0 = λ k. (i : ℕ) → 1 ≤ i → i ≤ m → joint_of k i next ≡ Open Late in
     let late = subst R is (λ i least most. reopens number items history i least (omega arith)) in
     let own = subst Q (sym goes.is) (starts w.source goes.more history next m (1 + place) (server_at place w.servers) late
-        (subst P goes.is (servers_at source w.source history m 1 place w.servers under h.servers))) in
+    (subst P goes.is (servers_at source w.source history m 1 place w.servers under h.servers))) in
     record {
       count = length-set w.servers place _ ∙ h.count;
       servers = servers_set source w.source history next m 1 place w.servers _
@@ -177,9 +177,11 @@ step_start source n m place number items w history goes under is same h =
 step_take : (source : List Change) (n m place number count : ℕ) (w : WorldState) (history : List Act) → place < length w.servers → number ≡ 1 + place
     → WorldFed source n m w history
     → WorldFed source n m
-        (record w { servers = slice_set w.servers place (record (server_at place w.servers) { queues = left_after count (server_at place w.servers).queues });
-          log = log_after number 1 count (server_at place w.servers).queues w.log })
-        (taking number 1 count (server_at place w.servers).queues history)
+    (record w {
+      servers = slice_set w.servers place (record (server_at place w.servers) { queues = left_after count (server_at place w.servers).queues });
+      log = log_after number 1 count (server_at place w.servers).queues w.log;
+    })
+    (taking number 1 count (server_at place w.servers).queues history)
 step_take source n m place number count w history under is h =
     let s = server_at place w.servers in
     let next = taking number 1 count s.queues history in
@@ -239,7 +241,7 @@ started_at_place : (source : List Change) (n m : ℕ) (w : WorldState) (history 
 started_at_place source n m w history number None is goes h = h
 started_at_place source n m w history number (Some place) is goes h =
     step_start source n m place (place + 1) (length w.log.lasts) w history goes (place_within number _ place _ _ refl refl is) (omega arith)
-      (items_of source n m w history h) h
+    (items_of source n m w history h) h
 
 -- each line keeps what the world owes
 step : (source : List Change) (n m : ℕ) (l : Line) (w : WorldState) (history : List Act) → GoesOn w.source source
@@ -265,14 +267,16 @@ steps source n m (l ∷ ls) w history is h =
 new_queues_fed : (source : List Change) (number item count size : ℕ) → 2 ≤ size → QueuesFed source [] number item [] (replicate count (empty_queue size))
 new_queues_fed source number item zero size two = tt
 new_queues_fed source number item (suc count) size two = (
-    record { size = two; next = 0; held = refl; joined = λ j. absurd cc },
-    new_queues_fed source number (item + 1) count size two)
+  record { size = two; next = 0; held = refl; joined = λ j. absurd cc },
+  new_queues_fed source number (item + 1) count size two,
+)
 
 new_servers_fed : (source : List Change) (number count items size : ℕ) → 2 ≤ size → ServersFed source [] [] items number (replicate count (new_server items size))
 new_servers_fed source number zero items size two = tt
 new_servers_fed source number (suc count) items size two = (
-    record { width = length-replicate items (empty_queue size); within = omega arith; queues = new_queues_fed source number 1 items size two },
-    new_servers_fed source (number + 1) count items size two)
+  record { width = length-replicate items (empty_queue size); within = omega arith; queues = new_queues_fed source number 1 items size two },
+  new_servers_fed source (number + 1) count items size two,
+)
 
 new_world_fed : (source : List Change) (n m size : ℕ) → 2 ≤ size → WorldFed source n m (new_world n m size) []
 new_world_fed source n m size two = record {
@@ -334,7 +338,7 @@ lines_add [] w h few = sym (append-nil w.source)
 lines_add (l ∷ ls) w h few =
     let own = line_adds l ls w h few in
     let whole : w.source ++ changes_in (l ∷ ls) ≡ (after l w).source ++ changes_in ls =
-        sym (append_assoc w.source (change_of l) (changes_in ls)) ∙ ap (λ x. x ++ changes_in ls) (sym own) in
+    sym (append_assoc w.source (change_of l) (changes_in ls)) ∙ ap (λ x. x ++ changes_in ls) (sym own) in
     let P : List Change → Type 0 = λ x. IsSource x × (length x ≤ MOST_CHANGES) in
     let kept = subst P whole (h, few) in
     lines_add ls (after l w) kept.0 kept.1 ∙ sym whole

@@ -43,8 +43,9 @@ pub servers_elsewhere : (source so_far more : List Change) (one other : List Act
     → ServersFed source so_far one items number servers → ServersFed source more other items number servers
 servers_elsewhere source so_far more one other items number [] same le h = tt
 servers_elsewhere source so_far more one other items number (s ∷ servers) same le h = (
-    server_elsewhere source so_far more one other items number s (λ i. same number i (omega arith)) le h.0,
-    servers_elsewhere source so_far more one other items (number + 1) servers (λ n i least. same n i (omega arith)) le h.1)
+  server_elsewhere source so_far more one other items number s (λ i. same number i (omega arith)) le h.0,
+  servers_elsewhere source so_far more one other items (number + 1) servers (λ n i least. same n i (omega arith)) le h.1,
+)
 
 -- one server changes, and acts are of that server alone
 pub servers_set : (source so_far : List Change) (one other : List Act) (items number place : ℕ) (servers : List ServerState) (next : ServerState)
@@ -53,14 +54,16 @@ pub servers_set : (source so_far : List Change) (one other : List Act) (items nu
     → ServersFed source so_far one items number servers → ServersFed source so_far other items number (slice_set servers place next)
 servers_set source so_far one other items number place [] next same under own h = absurd (omega arith)
 servers_set source so_far one other items number zero (s ∷ servers) next same under own h = (
-    (let here : number + 0 ≡ number = omega arith in
-    let P : ℕ → Type 0 = λ n. ServerFed source so_far other items n next in subst P here own),
-    servers_elsewhere source so_far so_far one other items (number + 1) servers (λ n i least. same n i (λ e. absurd (omega arith))) (omega arith) h.1)
+  (let here : number + 0 ≡ number = omega arith in
+      let P : ℕ → Type 0 = λ n. ServerFed source so_far other items n next in subst P here own),
+  servers_elsewhere source so_far so_far one other items (number + 1) servers (λ n i least. same n i (λ e. absurd (omega arith))) (omega arith) h.1,
+)
 servers_set source so_far one other items number (suc place) (s ∷ servers) next same under own h = (
-    server_elsewhere source so_far so_far one other items number s (λ i. same number i (λ e. absurd (omega arith))) (omega arith) h.0,
-    (let here : number + suc place ≡ (number + 1) + place = omega arith in
-    let P : ℕ → Type 0 = λ n. ServerFed source so_far other items n next in
-    servers_set source so_far one other items (number + 1) place servers next (λ n i off. same n i (λ e. off (omega arith))) (omega arith) (subst P here own) h.1))
+  server_elsewhere source so_far so_far one other items number s (λ i. same number i (λ e. absurd (omega arith))) (omega arith) h.0,
+  (let here : number + suc place ≡ (number + 1) + place = omega arith in
+      let P : ℕ → Type 0 = λ n. ServerFed source so_far other items n next in
+      servers_set source so_far one other items (number + 1) place servers next (λ n i off. same n i (λ e. off (omega arith))) (omega arith) (subst P here own) h.1),
+)
 
 pub servers_at : (source so_far : List Change) (history : List Act) (items number place : ℕ) (servers : List ServerState) → place < length servers
     → ServersFed source so_far history items number servers → ServerFed source so_far history items (number + place) (server_at place servers)
@@ -92,9 +95,9 @@ feed_split : (so_far more : List Change) (position count : ℕ) → position ≤
 feed_split so_far more position count le =
     sym (take-append-drop position (so_far ++ more))
     ∙ ap (λ x. take position (so_far ++ more) ++ x)
-        (drop-append-le position so_far more le
-        ∙ ap (λ x. x ++ more) (sym (take-append-drop count (drop position so_far)))
-        ∙ append_assoc (take count (drop position so_far)) (drop count (drop position so_far)) more)
+    (drop-append-le position so_far more le
+    ∙ ap (λ x. x ++ more) (sym (take-append-drop count (drop position so_far)))
+    ∙ append_assoc (take count (drop position so_far)) (drop count (drop position so_far)) more)
 
 feeds_running : (so_far more : List Change) (history : List Act) (items number count : ℕ) (s : ServerState)
     → ServerFed (so_far ++ more) so_far history items number s
@@ -108,9 +111,9 @@ feeds_running so_far more history items number count s h =
     let width : length front ≡ s.position = omega (arith, length-take s.position source, length-append so_far more, h.within) in
     let shorter : length next + s.position ≤ length so_far = omega (arith, length-take count (drop s.position so_far), length-drop s.position so_far, h.within) in
     let up_to : take (s.position + length next) source ≡ front ++ next =
-        ap (take (s.position + length next)) (whole ∙ sym (append_assoc front next rest))
-        ∙ ap (λ n. take n ((front ++ next) ++ rest)) (omega (arith, length-append front next))
-        ∙ take-append_seam (front ++ next) rest in
+    ap (take (s.position + length next)) (whole ∙ sym (append_assoc front next rest))
+    ∙ ap (λ n. take n ((front ++ next) ++ rest)) (omega (arith, length-append front next))
+    ∙ take-append_seam (front ++ next) rest in
     let P : List Change → Type 0 = λ f. QueuesFed source history number 1 f (pushed_all next s.queues) in
     record {
       width = length-pushed_all next s.queues ∙ h.width;

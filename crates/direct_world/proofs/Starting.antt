@@ -56,7 +56,7 @@ opens_by source more history server item queue (Some c) is two late =
     let next = length (of_item item source) - 1 in
     let whole = filter-append (λ d. d.item == item) source more in
     let here : slice_get (of_item item (source ++ more)) next ≡ Some c =
-        ap (λ s. slice_get s next) whole ∙ get_front (of_item item source) (of_item item more) next c last.0 in
+    ap (λ s. slice_get s next) whole ∙ get_front (of_item item source) (of_item item more) next c last.0 in
     let P : ℕ → Type 0 = λ n. HeldFrom (of_item item (source ++ more)) next (pushed c (empty_queue queue.size)).entries n in
     record {
       size = two;
@@ -71,8 +71,9 @@ pub opens_queues : (source more : List Change) (before after : List Act) (server
     → QueuesFed (source ++ more) before server item front queues → QueuesFed (source ++ more) after server item source (opened_from item source queues)
 opens_queues source more before after server item front [] late h = tt
 opens_queues source more before after server item front (queue ∷ queues) late h = (
-    opens_by source more after server item queue _ refl h.0.size (late item (omega arith) (omega arith)),
-    opens_queues source more before after server (item + 1) front queues (λ i le under. late i (omega arith) (omega arith)) h.1)
+  opens_by source more after server item queue _ refl h.0.size (late item (omega arith) (omega arith)),
+  opens_queues source more before after server (item + 1) front queues (λ i le under. late i (omega arith) (omega arith)) h.1,
+)
 
 -- the joints of a server's first items are open, and others are as they were
 pub reopens : (server items : ℕ) (history : List Act) (i : ℕ) → 1 ≤ i → i ≤ items → joint_of server i (reopening server items history) ≡ Open Late
@@ -95,7 +96,7 @@ pub reopens_other : (server items : ℕ) (history : List Act) (s i : ℕ) → se
 reopens_other server zero history s i off = same_at s i history
 reopens_other server (suc items) history s i off =
     same_then s i history (reopening server items history) _ (reopens_other server items history s i off)
-      (same_set server (suc items) s i (Open Late) (reopening server items history) (other_server server (suc items) s i off))
+    (same_set server (suc items) s i (Open Late) (reopening server items history) (other_server server (suc items) s i off))
 
 pub reopens_well : (source : List Change) (server items : ℕ) (history : List Act) → WellFed source history → WellFed source (reopening server items history)
 reopens_well source server zero history well = well

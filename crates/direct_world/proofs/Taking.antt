@@ -43,8 +43,8 @@ enters source server item front size (suc count) (entry ∷ entries) history nex
     let stands : StandsBefore source item (place + 1) (arrived entry) = record { place = place; here = entry_at source item place entry h.1; next_is = refl } in
     let P : Option Arrived → Type 0 = λ o. IsSomeAnd o (StandsBefore source item (place + 1)) in
     let more = enters source server item front size count entries entered (place + 1) two h.4
-        (λ joined. subst P (sym (entered_here server item (arrived entry) history)) stands)
-        (fed_entry source item place entry h.1, λ time t joined. some_map (previous server item history) (StandsBefore source item next) (λ former. Linked source item former (arrived entry)) links (j joined), well) in
+    (λ joined. subst P (sym (entered_here server item (arrived entry) history)) stands)
+    (fed_entry source item place entry h.1, λ time t joined. some_map (previous server item history) (StandsBefore source item next) (λ former. Linked source item former (arrived entry)) links (j joined), well) in
     record {
       well = more.well;
       fed = more.fed;
@@ -69,8 +69,9 @@ pub queues_elsewhere : (source : List Change) (one other : List Act) (server ite
     → ((i : ℕ) → item ≤ i → SameAt server i one other) → QueuesFed source one server item front queues → QueuesFed source other server item front queues
 queues_elsewhere source one other server item front [] same h = tt
 queues_elsewhere source one other server item front (queue ∷ queues) same h = (
-    fed_elsewhere source one other server item front queue (same item (omega arith)) h.0,
-    queues_elsewhere source one other server (item + 1) front queues (λ i le. same i (omega arith)) h.1)
+  fed_elsewhere source one other server item front queue (same item (omega arith)) h.0,
+  queues_elsewhere source one other server (item + 1) front queues (λ i le. same i (omega arith)) h.1,
+)
 
 -- after the oldest entries of each queue of a server were entered, from an item on
 pub record TakesQueues (source : List Change) (server item : ℕ) (front : List Change) (left : List QueueState) (history after : List Act) : Type 0 where

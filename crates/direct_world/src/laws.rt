@@ -19,15 +19,13 @@ pub fn history_is_well_fed()
         (after_all lines (new_world servers items queue)).log.lines ≡ lines_of (history_of servers items queue lines) }
     ensures fed { (servers items queue : ℕ) (lines : List Line) → 2 ≤ queue →
         WellFed (after_all lines (new_world servers items queue)).source (history_of servers items queue lines) }
-{
-}
+{}
 
 /// Where all changes of the lines together are a source that is not too long, they are the world's one source.
 pub fn changes_are_the_source()
     ensures { (servers items queue : ℕ) (lines : List Line) → IsSource (changes_in lines) → length (changes_in lines) ≤ MOST_CHANGES →
         (after_all lines (new_world servers items queue)).source ≡ changes_in lines }
-{
-}
+{}
 
 /// The log is safe: each item's data lines are changes of the source in order, no place twice; and where a change is
 /// missing between two of them, a gap line of the item stands directly before the later one.
@@ -36,12 +34,10 @@ pub fn log_is_safe()
         Safe (after_all lines (new_world servers items queue)).source (after_all lines (new_world servers items queue)).log.lines }
     ensures order { (servers items queue : ℕ) (lines : List Line) → 2 ≤ queue →
         InOrder (after_all lines (new_world servers items queue)).source (after_all lines (new_world servers items queue)).log.lines }
-{
-}
+{}
 
 /// Each gap line of the log stands before the data line that it is there for, and tells its true cause.
 pub fn gaps_have_true_causes()
     ensures { (servers items queue : ℕ) (lines : List Line) → 2 ≤ queue →
         Caused (history_of servers items queue lines) (after_all lines (new_world servers items queue)).log.lines }
-{
-}
+{}

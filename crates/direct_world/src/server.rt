@@ -3,12 +3,11 @@ ghost use Rattle.item_queue.specs.Queue.{without_oldest};
 ghost use Rattle.delivery_log.specs.Log.{Covers};
 ghost use Rattle.direct_world.specs.Server.{place_in, pushed_at, new_server, pushed_all, fed, stopped, opened, opened_from, started, arrived, entered_all, log_after, left_after};
 
-use std::alloc::Global;
-use std::marker::Model;
-
 use delivery_log::Log;
 use item_queue::{Entry, ItemQueue};
 use set_model::{Arrived, Change, Seen, SourceLog};
+use std::alloc::Global;
+use std::marker::Model;
 use ua_base::OutOfMemory;
 use ua_base::status::OVERFLOW_BITS;
 
@@ -84,7 +83,13 @@ fn arrived(entry: Entry) -> Arrived
 }
 
 /// Enters these entries of a server and item in the client's log.
-fn enter_all(alloc: Global, log: &mut Log, server: u8, item: u8, entries: &[Entry]) -> Result<(), OutOfMemory>
+fn enter_all(
+    alloc: Global,
+    log: &mut Log,
+    server: u8,
+    item: u8,
+    entries: &[Entry],
+) -> Result<(), OutOfMemory>
     requires { Covers server item log.old }
     ensures ok { OnOk result (log.new ≡ entered_all server item entries.now log.old) }
     ensures items { length log.new.lasts ≡ length log.old.lasts }
@@ -97,7 +102,14 @@ fn enter_all(alloc: Global, log: &mut Log, server: u8, item: u8, entries: &[Entr
 }
 
 /// Moves up to so many oldest entries of a queue into the client's log.
-fn take_item(alloc: Global, queue: &mut ItemQueue, log: &mut Log, server: u8, item: u8, count: usize) -> Result<(), OutOfMemory>
+fn take_item(
+    alloc: Global,
+    queue: &mut ItemQueue,
+    log: &mut Log,
+    server: u8,
+    item: u8,
+    count: usize,
+) -> Result<(), OutOfMemory>
     requires { Covers server item log.old }
     ensures queue { OnOk result (queue.new ≡ without_oldest count queue.old) }
     ensures log { OnOk result (log.new ≡ entered_all server item (take count queue.old.entries) log.old) }
@@ -110,7 +122,13 @@ fn take_item(alloc: Global, queue: &mut ItemQueue, log: &mut Log, server: u8, it
 }
 
 /// Moves up to so many oldest entries of each queue into the client's log, item 1 first.
-fn take_all(alloc: Global, queues: &mut [ItemQueue], log: &mut Log, server: u8, count: usize) -> Result<(), OutOfMemory>
+fn take_all(
+    alloc: Global,
+    queues: &mut [ItemQueue],
+    log: &mut Log,
+    server: u8,
+    count: usize,
+) -> Result<(), OutOfMemory>
     requires server { (1 ≤ server) × (server ≤ length log.old.joints) }
     requires items { length queues.old ≤ length log.old.lasts }
     requires few { length log.old.lasts < 2 ^ 8 }
@@ -120,7 +138,14 @@ fn take_all(alloc: Global, queues: &mut [ItemQueue], log: &mut Log, server: u8, 
     ensures servers { length log.new.joints ≡ length log.old.joints }
 {
     for place in 0..queues.len() {
-        take_item(alloc, &mut queues[place], log, server, (place + 1) as u8, count)?;
+        take_item(
+            alloc,
+            &mut queues[place],
+            log,
+            server,
+            (place + 1) as u8,
+            count,
+        )?;
     }
     Ok(())
 }
@@ -198,7 +223,13 @@ impl Server {
     }
 
     /// Moves up to so many oldest entries of each queue into the client's log, if the server runs.
-    pub(crate) fn take(&mut self, alloc: Global, log: &mut Log, number: u8, count: u32) -> Result<(), OutOfMemory>
+    pub(crate) fn take(
+        &mut self,
+        alloc: Global,
+        log: &mut Log,
+        number: u8,
+        count: u32,
+    ) -> Result<(), OutOfMemory>
         requires server { (1 ≤ number) × (number ≤ length log.old.joints) }
         requires items { length self.old.queues ≤ length log.old.lasts }
         requires few { length log.old.lasts < 2 ^ 8 }
@@ -208,7 +239,13 @@ impl Server {
         ensures items { length log.new.lasts ≡ length log.old.lasts }
         ensures servers { length log.new.joints ≡ length log.old.joints }
     {
-        take_all(alloc, self.queues.as_mut_slice(), log, number, count as usize)
+        take_all(
+            alloc,
+            self.queues.as_mut_slice(),
+            log,
+            number,
+            count as usize,
+        )
     }
 
     /// Whether a life of it goes on.

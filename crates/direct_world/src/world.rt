@@ -2,13 +2,12 @@ ghost use Rattle.std.specs.Prelude.{◌≡◌, ◌^◌, ◌<◌, ◌≤◌, leng
 ghost use Rattle.direct_world.specs.Server.{place_in, new_server};
 ghost use Rattle.direct_world.specs.World.{after, appended, fed_at, new_world, reopened, server_at, started_at, stopped_at, taken_at, at_server};
 
-use std::alloc::Global;
-use std::marker::Model;
-
 use crate::server::{Server, place_in};
 use delivery_log::{Joint, Log};
 use scenario::Line;
 use set_model::{Change, GapCause, LogLine, SourceFault, SourceLog};
+use std::alloc::Global;
+use std::marker::Model;
 use ua_base::OutOfMemory;
 
 /// The world of direct servers: the source, the servers and the client's log.
@@ -185,7 +184,12 @@ impl World {
     }
 }
 
-fn new_servers(alloc: Global, servers: u8, items: u8, queue: u32) -> Result<Vec<Server>, OutOfMemory>
+fn new_servers(
+    alloc: Global,
+    servers: u8,
+    items: u8,
+    queue: u32,
+) -> Result<Vec<Server>, OutOfMemory>
     requires least { 1 ≤ queue }
     requires most { queue ≤ 1000 }
     ensures { IfOk result (λ made. made.items ≡ replicate servers (new_server items queue)) }

@@ -1,10 +1,10 @@
 -- A text has a form exactly where it is the form's spelling.
-use Rattle.std.proofs.Common.{◌≡◌, ◌≢◌, ◌==◌, ℕ, ◌+◌, ◌-◌, ◌<◌, ◌≤◌, ◌⊎◌, inl, inr, zero, suc, ℤ, pos, negsuc, List, [], ◌∷◌, ◌++◌, Bool, true, false, cond, not, Option, Some, None, length, refl, sym, ◌∙◌, ap, subst, arith, rules}
-use Rattle.std.specs.Prelude.{if◌then◌else◌, codes}
+use Rattle.std.proofs.Common.{◌≡◌, ◌==◌, ℕ, ◌≤◌, ◌⊎◌, inl, inr, suc, ℤ, pos, negsuc, List, [], ◌∷◌, ◌++◌, Bool, true, false, cond, Option, Some, None, refl, sym, ◌∙◌, ap, arith, rules}
+use Rattle.std.specs.Prelude.{codes}
 use Rattle.std.specs.Str.{bytes_eq}
 use Rattle.std.proofs.lemmas.Bool.Decides.{nat_tests}
 use Rattle.std.proofs.lemmas.Slice.Eq.{bytes_eq-Decides}
-use Rattle.std.proofs.lemmas.List.{append_assoc, append-nil}
+use Rattle.std.proofs.lemmas.List.{append-nil}
 use Rattle.ua_base.specs.declared.modes.SetMode.{SetMode}
 use Rattle.ua_base.specs.declared.modes.SetMode.TheVariants.{Direct, Hot, Warm, Cold}
 use Rattle.scenario.specs.declared.form.Form.{Form}
@@ -155,7 +155,7 @@ after_spelled (form.Items items queue) =
     ∙ ap (λ o. o >>= λ n. Some (form.Items items n)) (one_spelled queue)
 after_spelled (form.Change item time value) =
     ap (λ o. o >>= λ i. number_at plain i.1 >>= λ t. integer_at plain t.1 >>= λ v. last_at v.1 >>= λ _. Some (form.Change i.0 t.0 v.0))
-        (number_spelled item (numeral time ∷ signed_numeral value ∷ []))
+    (number_spelled item (numeral time ∷ signed_numeral value ∷ []))
     ∙ ap (λ o. o >>= λ t. integer_at plain t.1 >>= λ v. last_at v.1 >>= λ _. Some (form.Change item t.0 v.0)) (number_spelled time (signed_numeral value ∷ []))
     ∙ ap (λ o. o >>= λ v. last_at v.1 >>= λ _. Some (form.Change item time v.0)) (integer_spelled value [])
 after_spelled (form.Feed server count) = ap (λ o. o >>= λ n. Some (form.Feed n.0 n.1)) (two_spelled server count)
@@ -224,15 +224,15 @@ two_got ws p h =
 mode_word : (word : List ℕ) (m : SetMode) → mode_of word ≡ Some m → word ≡ mode_text m
 mode_word word m h =
     elim (chosen (bytes_eq word (codes "direct")) (Some Direct)
-        (cond (bytes_eq word (codes "hot")) (Some Hot) (cond (bytes_eq word (codes "warm")) (Some Warm) (cond (bytes_eq word (codes "cold")) (Some Cold) None))) m h) [
-      inl a ↦ is_word word _ a.0 ∙ said Direct m a.1
-    | inr a ↦ elim (chosen (bytes_eq word (codes "hot")) (Some Hot) (cond (bytes_eq word (codes "warm")) (Some Warm) (cond (bytes_eq word (codes "cold")) (Some Cold) None)) m a.1) [
-        inl b ↦ is_word word _ b.0 ∙ said Hot m b.1
-      | inr b ↦ elim (chosen (bytes_eq word (codes "warm")) (Some Warm) (cond (bytes_eq word (codes "cold")) (Some Cold) None) m b.1) [
-          inl c ↦ is_word word _ c.0 ∙ said Warm m c.1
-        | inr c ↦ elim (chosen (bytes_eq word (codes "cold")) (Some Cold) None m c.1) [
-            inl d ↦ is_word word _ d.0 ∙ said Cold m d.1
-          | inr d ↦ absurd (none m d.1)
+    (cond (bytes_eq word (codes "hot")) (Some Hot) (cond (bytes_eq word (codes "warm")) (Some Warm) (cond (bytes_eq word (codes "cold")) (Some Cold) None))) m h) [
+      | inl a ↦ is_word word _ a.0 ∙ said Direct m a.1
+      | inr a ↦ elim (chosen (bytes_eq word (codes "hot")) (Some Hot) (cond (bytes_eq word (codes "warm")) (Some Warm) (cond (bytes_eq word (codes "cold")) (Some Cold) None)) m a.1) [
+        | inl b ↦ is_word word _ b.0 ∙ said Hot m b.1
+        | inr b ↦ elim (chosen (bytes_eq word (codes "warm")) (Some Warm) (cond (bytes_eq word (codes "cold")) (Some Cold) None) m b.1) [
+          | inl c ↦ is_word word _ c.0 ∙ said Warm m c.1
+          | inr c ↦ elim (chosen (bytes_eq word (codes "cold")) (Some Cold) None m c.1) [
+            | inl d ↦ is_word word _ d.0 ∙ said Cold m d.1
+            | inr d ↦ absurd (none m d.1)
           ]
         ]
       ]
@@ -240,6 +240,7 @@ mode_word word m h =
   where
     said : (k m : SetMode) → ◌≡◌ {A = Option SetMode} (Some k) (Some m) → mode_text k ≡ mode_text m
     said k m e = let f : k ≡ m = cc in ap mode_text f
+
     none : (m : SetMode) → ◌≡◌ {A = Option SetMode} None (Some m) → ⊥
     none m e = cc
 
@@ -254,12 +255,13 @@ queue_got : (ws rest : List (List ℕ)) → queue_at ws ≡ Some rest → ws ≡
 queue_got ws rest h =
     let a = got (word_at ws) (λ first. cond (bytes_eq first.0 (codes "queue")) (Some first.1) None) rest h in
     word_got ws a.0 a.1 ∙ elim (chosen (bytes_eq a.0.0 (codes "queue")) (Some a.0.1) None rest a.2) [
-      inl b ↦ let e : a.0.1 ≡ rest = is_rest a.0.1 rest b.1 in ap (λ w. w ∷ a.0.1) (is_word a.0.0 _ b.0) ∙ ap (λ more. codes "queue" ∷ more) e
-    | inr b ↦ absurd (none rest b.1)
+      | inl b ↦ let e : a.0.1 ≡ rest = is_rest a.0.1 rest b.1 in ap (λ w. w ∷ a.0.1) (is_word a.0.0 _ b.0) ∙ ap (λ more. codes "queue" ∷ more) e
+      | inr b ↦ absurd (none rest b.1)
     ]
   where
     is_rest : (u v : List (List ℕ)) → ◌≡◌ {A = Option (List (List ℕ))} (Some u) (Some v) → u ≡ v
     is_rest u v e = cc
+
     none : (v : List (List ℕ)) → ◌≡◌ {A = Option (List (List ℕ))} None (Some v) → ⊥
     none v e = cc
 
@@ -278,7 +280,7 @@ items_got ws f h =
     let c = got (one_number plain b.0) (λ n. Some (form.Items a.0.0 n)) f b.2 in
     let e : form.Items a.0.0 c.0 ≡ f = cc in
     ap (λ more. codes "items" ∷ more) (number_got ws a.0 a.1 ∙ ap (λ more. numeral a.0.0 ∷ more)
-        (queue_got a.0.1 b.0 b.1 ∙ ap (λ more. codes "queue" ∷ more) (one_got b.0 c.0 c.1))) ∙ ap form_words e
+    (queue_got a.0.1 b.0 b.1 ∙ ap (λ more. codes "queue" ∷ more) (one_got b.0 c.0 c.1))) ∙ ap form_words e
 
 change_got : (ws : List (List ℕ)) (f : Form) → change_form plain ws ≡ Some f → codes "change" ∷ ws ≡ form_words f
 change_got ws f h =
@@ -288,8 +290,8 @@ change_got ws f h =
     let d = got (last_at c.0.1) (λ _. Some (form.Change a.0.0 b.0.0 c.0.0)) f c.2 in
     let e : form.Change a.0.0 b.0.0 c.0.0 ≡ f = cc in
     ap (λ more. codes "change" ∷ more) (number_got ws a.0 a.1 ∙ ap (λ more. numeral a.0.0 ∷ more)
-        (number_got a.0.1 b.0 b.1 ∙ ap (λ more. numeral b.0.0 ∷ more)
-        (integer_got b.0.1 c.0 c.1 ∙ ap (λ more. signed_numeral c.0.0 ∷ more) (last_got c.0.1 d.0 d.1)))) ∙ ap form_words e
+    (number_got a.0.1 b.0 b.1 ∙ ap (λ more. numeral b.0.0 ∷ more)
+    (integer_got b.0.1 c.0 c.1 ∙ ap (λ more. signed_numeral c.0.0 ∷ more) (last_got c.0.1 d.0 d.1)))) ∙ ap form_words e
 
 two_form_got : (name : List ℕ) (g : ℕ → ℕ → Form) → ((m n : ℕ) → name ∷ (numeral m ∷ numeral n ∷ []) ≡ form_words (g m n))
     → (ws : List (List ℕ)) (f : Form) → (two_numbers plain ws >>= λ n. Some (g n.0 n.1)) ≡ Some f → name ∷ ws ≡ form_words f
@@ -316,8 +318,8 @@ keyword_case : (keyword name : List ℕ) (ws : List (List ℕ)) (f : Form) (here
     → (others ≡ Some f → keyword ∷ ws ≡ form_words f) → cond (bytes_eq keyword name) here others ≡ Some f → keyword ∷ ws ≡ form_words f
 keyword_case keyword name ws f here others g k h =
     elim (chosen (bytes_eq keyword name) here others f h) [
-      inl a ↦ ap (λ w. w ∷ ws) (is_word keyword name a.0) ∙ g a.1
-    | inr b ↦ k b.1
+      | inl a ↦ ap (λ w. w ∷ ws) (is_word keyword name a.0) ∙ g a.1
+      | inr b ↦ k b.1
     ]
 
 none_got : (keyword : List ℕ) (ws : List (List ℕ)) (f : Form) → ◌≡◌ {A = Option Form} None (Some f) → keyword ∷ ws ≡ form_words f

@@ -5,3 +5,4 @@ pub mod CapLemmas
 pub mod ValidLemmas
 pub mod NumeralLemmas
 pub mod GrammarLemmas
+pub mod WrittenLemmas

@@ -1,14 +1,13 @@
 -- A numeral and its number, both ways, of any size.
-use Rattle.std.proofs.Common.{◌≡◌, ◌≢◌, ◌==◌, ℕ, ◌+◌, ◌-◌, ◌*◌, ◌/◌, ◌%◌, ◌<◌, ◌≤◌, ◌^◌, zero, suc, ℤ, pos, negsuc, List, [], ◌∷◌, ◌++◌, Bool, true, false, cond, not, Option, Some, None, length, refl, sym, ◌∙◌, ap, subst, arith, rules, get_or}
-use Rattle.std.specs.Prelude.{if◌then◌else◌, codes, map}
+use Rattle.std.proofs.Common.{◌≡◌, ◌≢◌, ◌==◌, ℕ, ◌+◌, ◌-◌, ◌*◌, ◌/◌, ◌%◌, ◌<◌, ◌≤◌, ◌^◌, zero, suc, ℤ, pos, negsuc, List, [], ◌∷◌, ◌++◌, Bool, true, false, cond, Option, Some, None, refl, sym, ◌∙◌, ap, subst, arith, get_or}
+use Rattle.std.specs.Prelude.{codes, map}
 use Rattle.std.specs.Char.{is_ascii_digit}
-use Rattle.std.specs.Int.Digits.{digits_of, digits_with_fuel, number_from_digits, number_from_digits_after, AllBelowBase}
+use Rattle.std.specs.Int.Digits.{digits_of, number_from_digits, number_from_digits_after, AllBelowBase}
 use Rattle.std.specs.Fmt.{decimal, signed_decimal, digits}
 use Rattle.std.proofs.lemmas.Fmt.{decimal-digits_of}
 use Rattle.std.proofs.lemmas.Int.Digits.{digits_of_step, all_below_base_digits_of, first_digits_of, number_digits_of}
 use Rattle.std.proofs.lemmas.Bool.Decides.{nat_tests}
 use Rattle.std.proofs.lemmas.List.{append_assoc, append-nil, map-append}
-use Rattle.std.specs.Prelude.{nat_lt}
 use Rattle.scenario.specs.Faults.{fits_value}
 use Rattle.scenario.specs.Words.{◌>>=◌, numeral, signed_numeral, digits_from, zero_alone, number_of, number_by, read_by, integer_by, below_zero}
 
@@ -73,7 +72,7 @@ goes_case m n c cs true above e h more =
     record {
       above = next.above;
       digits = next.digits ∙ ap (λ front. front ++ cs) d ∙ ap (λ k. map (λ digit. 48 + digit) (digits_of 10 m) ++ k ∷ [] ++ cs) same
-        ∙ append_assoc (map (λ digit. 48 + digit) (digits_of 10 m)) (c ∷ []) cs;
+          ∙ append_assoc (map (λ digit. 48 + digit) (digits_of 10 m)) (c ∷ []) cs;
     }
 goes_case m n c cs false above e h more = absurd cc
 

@@ -44,12 +44,12 @@ pub record Followed (pool : ℕ) (before lines : List Line) : Type 0 where
   pub lines_are : lines ≡ before ++ more
   pub follow : Follow pool before more
 
-ended_ok : (b : Bool) (before lines : List Line) (fault : ScenarioFault) → has_ended before ≡ b → cond b (Ok before) (Err fault) ≡ Ok lines
+pub ended_ok : (b : Bool) (before lines : List Line) (fault : ScenarioFault) → has_ended before ≡ b → cond b (Ok before) (Err fault) ≡ Ok lines
     → (has_ended before ≡ true) × (before ≡ lines)
 ended_ok true before lines fault e h = (e, cc)
 ended_ok false before lines fault e h = absurd cc
 
-go_on_ok : (before lines : List Line) (more : Line → Result (List Line) ScenarioFault) (j : Result Line FaultKind) → go_on before more j ≡ Ok lines
+pub go_on_ok : (before lines : List Line) (more : Line → Result (List Line) ScenarioFault) (j : Result Line FaultKind) → go_on before more j ≡ Ok lines
     → (l : Line) × (j ≡ Ok l) × (more l ≡ Ok lines)
 go_on_ok before lines more (Ok l) h = (l, refl, h)
 go_on_ok before lines more (Err k) h = absurd cc

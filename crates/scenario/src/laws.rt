@@ -1,9 +1,10 @@
 //! What holds of every scenario, as contracts of functions that do nothing.
-ghost use Rattle.std.specs.Prelude.{◌≡◌, ℕ, List, Ok, Some};
+ghost use Rattle.std.specs.Prelude.{◌≡◌, ◌++◌, ◌⊎◌, ℕ, List, Ok, Some, codes};
 ghost use Rattle.scenario.specs.declared.form.Form.{Form};
 ghost use Rattle.scenario.specs.declared.line.Line.{Line};
 ghost use Rattle.scenario.specs.Grammar.{form_of, form_text};
 ghost use Rattle.scenario.specs.Scenario.{scenario_of};
+ghost use Rattle.scenario.specs.Texts.{written};
 ghost use Rattle.scenario.specs.Valid.{IsScenario};
 
 /// The lines of each valid text are a scenario: the set, the items, lines that fit them, and `end`.
@@ -15,5 +16,11 @@ pub fn valid_lines()
 pub fn grammar()
     ensures read_is_spelled { (text : List ℕ) (form : Form) → form_of text ≡ Some form → form_text form ≡ text }
     ensures spelled_is_read { (form : Form) → form_of (form_text form) ≡ Some form }
-{
-}
+{}
+
+/// What is written of a scenario is read as the same lines; and what was read is what would be written, but for a last
+/// line feed that may be missing.
+pub fn reads_what_was_written()
+    ensures again { (pool : ℕ) (bytes : List ℕ) (lines : List Line) → scenario_of pool bytes ≡ Ok lines → scenario_of pool (written lines) ≡ Ok lines }
+    ensures same { (pool : ℕ) (bytes : List ℕ) (lines : List Line) → scenario_of pool bytes ≡ Ok lines → (bytes ≡ written lines) ⊎ (bytes ++ codes "\n" ≡ written lines) }
+{}

@@ -174,4 +174,4 @@ allowed_in_source cs c ds h few =
     let here : (c.item == c.item) ≡ true = grind (arith, nat_tests) in
     let rises = subst P (of_item-between c.item cs c ds here) (h.rises c.item) in
     not_full _ (length cs) (refusal_after (last_of c.item cs) c) refl few
-      (ap (λ o. refusal_after o c) (last_of-newest c.item cs) ∙ unrefused_after (of_item c.item cs) c (of_item c.item ds) rises)
+    (ap (λ o. refusal_after o c) (last_of-newest c.item cs) ∙ unrefused_after (of_item c.item cs) c (of_item c.item ds) rises)

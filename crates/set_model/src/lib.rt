@@ -4,6 +4,8 @@
 mod line;
 mod report;
 mod source;
+#[cfg(test)]
+mod tests;
 
 pub use line::{Arrived, GapCause, LogLine, Seen, UaRaw, write_line};
 pub use report::report_of;

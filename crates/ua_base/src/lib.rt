@@ -1,9 +1,15 @@
-//! What every crate of the set needs: want of memory, the modes, and the status codes.
+//! What every crate of the set needs: want of memory, the modes, durations, number steps, and the status codes.
 #![tactic(auto)]
 
+mod duration;
 mod memory;
 mod modes;
+mod number;
 pub mod status;
+#[cfg(test)]
+mod tests;
 
+pub use duration::{MOST_MS, bits_of_ms, ms_of_bits, reads_again};
 pub use memory::OutOfMemory;
 pub use modes::{Mode, SetMode};
+pub use number::{LAST_CHUNK, next_chunk, next_message};

@@ -8,6 +8,8 @@ mod calls;
 mod sink;
 mod source;
 mod standard;
+#[cfg(test)]
+mod tests;
 
 pub use sink::{MemSink, Put, Sink};
 pub use source::{MemSource, Source, Took};

@@ -5,6 +5,8 @@ mod command;
 mod reading;
 mod replay;
 mod status;
+#[cfg(test)]
+mod tests;
 mod writing;
 
 use command::run;

@@ -1,0 +1,233 @@
+-- What is written is read again, and what is read was written so.
+use Rattle.std.proofs.Common.{◌≡◌, ◌==◌, ℕ, ◌+◌, ◌<◌, ◌^◌, ◌⊎◌, inl, inr, List, [], ◌∷◌, ◌++◌, Bool, true, false, cond, None, Ok, length, refl, sym, ◌∙◌, ap, subst, arith}
+use Rattle.std.specs.Prelude.{codes, map}
+use Rattle.std.specs.List.{flat_map}
+use Rattle.std.specs.Fmt.{decimal, signed_decimal}
+use Rattle.std.proofs.lemmas.Bool.Decides.{nat_tests}
+use Rattle.std.proofs.lemmas.Bool.{and_parts}
+use Rattle.std.proofs.lemmas.List.{append_assoc, append-nil}
+use Rattle.scenario.specs.declared.form.Form.{Form}
+use Rattle.scenario.specs.declared.form.Form.TheVariants as form
+use Rattle.scenario.specs.declared.line.Line.{Line}
+use Rattle.scenario.specs.Texts.{mode_text, line_text, written}
+use Rattle.scenario.specs.Words.{with_first, lines_of, numeral, signed_numeral}
+use Rattle.scenario.specs.Grammar.{last_at, form_text}
+use Rattle.scenario.specs.Past.{servers_of, items_of, servers_in, items_in, has_ended}
+use Rattle.scenario.specs.Faults.{is_within, fits_value, line_of, judged}
+use Rattle.scenario.specs.Scenario.{kind_at_end, valid_from, scenario_of}
+use Rattle.scenario.proofs.FaultLemmas.{Passes, taken, within_range}
+use Rattle.scenario.proofs.NumeralLemmas.{numeral-decimal, signed_numeral-decimal}
+use Rattle.scenario.proofs.GrammarLemmas.{form_text-form_of}
+use Rattle.scenario.proofs.ValidLemmas.{ended_ok, go_on_ok}
+
+-- words with spaces between them, joined from either side
+join2 : (a b : List ℕ) → (a ++ 32 ∷ []) ++ b ≡ a ++ (32 ∷ (b ++ []))
+join2 a b = append_assoc a (32 ∷ []) b ∙ ap (λ r. a ++ (32 ∷ r)) (sym (append-nil b))
+
+join3 : (a b c : List ℕ) → (((a ++ 32 ∷ []) ++ b) ++ 32 ∷ []) ++ c ≡ a ++ (32 ∷ (b ++ (32 ∷ (c ++ []))))
+join3 a b c =
+    append_assoc ((a ++ 32 ∷ []) ++ b) (32 ∷ []) c ∙ append_assoc (a ++ 32 ∷ []) b (32 ∷ c) ∙ append_assoc a (32 ∷ []) (b ++ 32 ∷ c)
+    ∙ ap (λ r. a ++ (32 ∷ (b ++ (32 ∷ r)))) (sym (append-nil c))
+
+-- the set is small enough that its numbers are printed as they are spelled
+record Small (before : List Line) : Type 0 where
+  servers : servers_in before < 2 ^ 64
+  items : items_in before < 2 ^ 64
+
+-- a line that was taken is printed as its form is spelled
+text_of : (pool : ℕ) (before : List Line) (f : Form) → Small before → Passes pool before f → line_text (line_of f) ≡ form_text f
+text_of pool before (form.Set mode servers) small p =
+    let w = within_range 1 8 servers p.range in
+    let n : servers < 2 ^ 64 = omega arith in
+    ap (λ d. codes "set " ++ mode_text mode ++ codes " " ++ d) (sym (numeral-decimal servers n)) ∙ ap (λ r. codes "set " ++ r) (join2 (mode_text mode) (numeral servers))
+text_of pool before (form.Items items queue) small p =
+    let parts = and_parts (is_within 1 64 items) (is_within 2 1000 queue) p.range in
+    let a = within_range 1 64 items parts.0 in
+    let b = within_range 2 1000 queue parts.1 in
+    let m : items < 2 ^ 64 = omega arith in
+    let n : queue < 2 ^ 64 = omega arith in
+    ap (λ d. codes "items " ++ d ++ codes " queue " ++ decimal queue) (sym (numeral-decimal items m))
+    ∙ ap (λ d. codes "items " ++ numeral items ++ codes " queue " ++ d) (sym (numeral-decimal queue n))
+    ∙ ap (λ r. codes "items " ++ r) (append_assoc (numeral items) (codes " queue ") (numeral queue))
+    ∙ ap (λ r. codes "items " ++ (numeral items ++ (codes " queue " ++ r))) (sym (append-nil (numeral queue)))
+text_of pool before (form.Change item time value) small p =
+    let parts = and_parts (is_within 1 (10 ^ 18) time) (fits_value value) p.range in
+    let a = within_range 1 (10 ^ 18) time parts.0 in
+    let i = within_range 1 (items_in before) item p.item in
+    let few : items_in before < 2 ^ 64 = small.items in
+    let m : item < 2 ^ 64 = omega arith in
+    let n : time < 2 ^ 64 = omega arith in
+    ap (λ d. codes "change " ++ d ++ codes " " ++ decimal time ++ codes " " ++ signed_decimal value) (sym (numeral-decimal item m))
+    ∙ ap (λ d. codes "change " ++ numeral item ++ codes " " ++ d ++ codes " " ++ signed_decimal value) (sym (numeral-decimal time n))
+    ∙ ap (λ d. codes "change " ++ numeral item ++ codes " " ++ numeral time ++ codes " " ++ d) (sym (signed_numeral-decimal value parts.1))
+    ∙ ap (λ r. codes "change " ++ r) (join3 (numeral item) (numeral time) (signed_numeral value))
+text_of pool before (form.Feed server count) small p =
+    let a = within_range 1 200000 count p.range in
+    let s = within_range 1 (servers_in before) server p.server in
+    let few : servers_in before < 2 ^ 64 = small.servers in
+    let m : server < 2 ^ 64 = omega arith in
+    let n : count < 2 ^ 64 = omega arith in
+    ap (λ d. codes "feed " ++ d ++ codes " " ++ decimal count) (sym (numeral-decimal server m))
+    ∙ ap (λ d. codes "feed " ++ numeral server ++ codes " " ++ d) (sym (numeral-decimal count n))
+    ∙ ap (λ r. codes "feed " ++ r) (join2 (numeral server) (numeral count))
+text_of pool before (form.Take server count) small p =
+    let a = within_range 1 1000 count p.range in
+    let s = within_range 1 (servers_in before) server p.server in
+    let few : servers_in before < 2 ^ 64 = small.servers in
+    let m : server < 2 ^ 64 = omega arith in
+    let n : count < 2 ^ 64 = omega arith in
+    ap (λ d. codes "take " ++ d ++ codes " " ++ decimal count) (sym (numeral-decimal server m))
+    ∙ ap (λ d. codes "take " ++ numeral server ++ codes " " ++ d) (sym (numeral-decimal count n))
+    ∙ ap (λ r. codes "take " ++ r) (join2 (numeral server) (numeral count))
+text_of pool before (form.Stop server) small p =
+    let s = within_range 1 (servers_in before) server p.server in
+    let few : servers_in before < 2 ^ 64 = small.servers in
+    let m : server < 2 ^ 64 = omega arith in
+    ap (λ d. codes "stop " ++ d) (sym (numeral-decimal server m) ∙ sym (append-nil (numeral server)))
+text_of pool before (form.Start server) small p =
+    let s = within_range 1 (servers_in before) server p.server in
+    let few : servers_in before < 2 ^ 64 = small.servers in
+    let m : server < 2 ^ 64 = omega arith in
+    ap (λ d. codes "start " ++ d) (sym (numeral-decimal server m) ∙ sym (append-nil (numeral server)))
+text_of pool before (form.Listen item) small p =
+    let i = within_range 1 (items_in before) item p.item in
+    let few : items_in before < 2 ^ 64 = small.items in
+    let m : item < 2 ^ 64 = omega arith in
+    ap (λ d. codes "listen " ++ d) (sym (numeral-decimal item m) ∙ sym (append-nil (numeral item)))
+text_of pool before (form.Unlisten id) small p =
+    let a = within_range 1 255 id p.range in
+    let m : id < 2 ^ 64 = omega arith in
+    ap (λ d. codes "unlisten " ++ d) (sym (numeral-decimal id m) ∙ sym (append-nil (numeral id)))
+text_of pool before form.End small p = refl
+
+-- one line more keeps the set small
+servers_either : (ls : List Line) (l : Line) → (servers_in (ls ++ l ∷ []) ≡ servers_in ls) ⊎ (servers_in (ls ++ l ∷ []) ≡ servers_of l)
+servers_either [] l = inr refl
+servers_either (m ∷ ls) l = inl refl
+
+items_either : (ls : List Line) (l : Line) → (items_in (ls ++ l ∷ []) ≡ items_in ls) ⊎ (items_in (ls ++ l ∷ []) ≡ items_of l)
+items_either [] l = inl refl
+items_either (m ∷ []) l = inr refl
+items_either (m ∷ (n ∷ ls)) l = inl refl
+
+few_of : (pool : ℕ) (before : List Line) (f : Form) → Passes pool before f → (servers_of (line_of f) < 2 ^ 64) × (items_of (line_of f) < 2 ^ 64)
+few_of pool before (form.Set mode servers) p = let w = within_range 1 8 servers p.range in (omega arith, omega arith)
+few_of pool before (form.Items items queue) p =
+    let parts = and_parts (is_within 1 64 items) (is_within 2 1000 queue) p.range in
+    let a = within_range 1 64 items parts.0 in (omega arith, omega arith)
+few_of pool before (form.Change item time value) p = (omega arith, omega arith)
+few_of pool before (form.Feed server count) p = (omega arith, omega arith)
+few_of pool before (form.Take server count) p = (omega arith, omega arith)
+few_of pool before (form.Stop server) p = (omega arith, omega arith)
+few_of pool before (form.Start server) p = (omega arith, omega arith)
+few_of pool before (form.Listen item) p = (omega arith, omega arith)
+few_of pool before (form.Unlisten id) p = (omega arith, omega arith)
+few_of pool before form.End p = (omega arith, omega arith)
+
+small_more : (before : List Line) (l : Line) → Small before → (servers_of l < 2 ^ 64) × (items_of l < 2 ^ 64) → Small (before ++ l ∷ [])
+small_more before l small few =
+    let s : servers_in before < 2 ^ 64 = small.servers in
+    let i : items_in before < 2 ^ 64 = small.items in
+    let m : servers_of l < 2 ^ 64 = few.0 in
+    let n : items_of l < 2 ^ 64 = few.1 in
+    record {
+      servers = elim (servers_either before l) [ inl e ↦ omega arith | inr e ↦ omega arith ];
+      items = elim (items_either before l) [ inl e ↦ omega arith | inr e ↦ omega arith ];
+    }
+
+-- the texts of a valid text are its lines' texts
+record Spelled (before lines : List Line) (texts : List (List ℕ)) : Type 0 where
+  more : List Line
+  lines_are : lines ≡ before ++ more
+  texts_are : texts ≡ map line_text more
+
+spelled : (pool : ℕ) (before : List Line) (texts : List (List ℕ)) (lines : List Line) → Small before → valid_from pool before texts ≡ Ok lines → Spelled before lines texts
+spelled pool before [] lines small h =
+    let e = ended_ok (has_ended before) before lines (record { line = length before + 1; kind = kind_at_end before }) refl h in
+    record { more = []; lines_are = sym e.1 ∙ sym (append-nil before); texts_are = refl }
+spelled pool before (text ∷ texts) lines small h =
+    let g = go_on_ok before lines (λ l. valid_from pool (before ++ l ∷ []) texts) (judged pool before text) h in
+    let t = taken pool before text g.0 g.1 in
+    let P : Line → Type 0 = λ l. (servers_of l < 2 ^ 64) × (items_of l < 2 ^ 64) in
+    let s = spelled pool (before ++ g.0 ∷ []) texts lines (small_more before g.0 small (subst P t.line_is (few_of pool before t.f t.passes))) g.2 in
+    let same : text ≡ line_text g.0 = sym (form_text-form_of text t.f t.is) ∙ sym (text_of pool before t.f small t.passes) ∙ ap line_text t.line_is in
+    record {
+      more = g.0 ∷ s.more;
+      lines_are = s.lines_are ∙ append_assoc before (g.0 ∷ []) s.more;
+      texts_are = ap (λ first. first ∷ texts) same ∙ ap (λ rest. line_text g.0 ∷ rest) s.texts_are;
+    }
+
+-- texts, each with a line feed
+abbrev joined : List (List ℕ) → List ℕ
+joined texts = flat_map (λ t. t ++ codes "\n") texts
+
+joined-texts : (lines : List Line) → joined (map line_text lines) ≡ written lines
+joined-texts [] = refl
+joined-texts (l ∷ ls) = ap (λ rest. line_text l ++ codes "\n" ++ rest) (joined-texts ls)
+
+first_some : (b : ℕ) (ws : List (List ℕ)) → last_at (with_first b ws) ≡ None
+first_some b [] = refl
+first_some b (w ∷ ws) = refl
+
+some_line : (b : ℕ) (rest : List ℕ) (feed : Bool) → last_at (cond feed ([] ∷ lines_of rest) (with_first b (lines_of rest))) ≡ None
+some_line b rest true = refl
+some_line b rest false = first_some b (lines_of rest)
+
+joined-first : (b : ℕ) (ws : List (List ℕ)) → last_at ws ≡ None → joined (with_first b ws) ≡ b ∷ joined ws
+joined-first b [] h = absurd cc
+joined-first b (w ∷ ws) h = refl
+
+-- the lines of a text, joined, are the text, or the text and the line feed that it lacks
+record Lacks (bytes : List ℕ) : Type 0 where
+  joined_is : joined (lines_of bytes) ≡ bytes ++ 10 ∷ []
+  same_lines : lines_of (bytes ++ 10 ∷ []) ≡ lines_of bytes
+
+feed_case : (b : ℕ) (rest : List ℕ) (feed : Bool) → (b == 10) ≡ feed
+    → lines_of (b ∷ rest) ≡ cond feed ([] ∷ lines_of rest) (with_first b (lines_of rest))
+feed_case b rest feed e = ap (λ s. cond s ([] ∷ lines_of rest) (with_first b (lines_of rest))) e
+
+join_case : (b : ℕ) (rest : List ℕ) (feed : Bool) → (b == 10) ≡ feed → (joined (lines_of rest) ≡ rest) ⊎ Lacks rest → (joined (lines_of (b ∷ rest)) ≡ b ∷ rest) ⊎ Lacks (b ∷ rest)
+join_case b rest true e (inl h) =
+    let is : 10 ≡ b = grind (arith, nat_tests) in
+    inl (ap joined (feed_case b rest true e) ∙ ap (λ t. 10 ∷ t) h ∙ ap (λ k. k ∷ rest) is)
+join_case b rest true e (inr h) =
+    let is : 10 ≡ b = grind (arith, nat_tests) in
+    inr (record {
+      joined_is = ap joined (feed_case b rest true e) ∙ ap (λ t. 10 ∷ t) h.joined_is ∙ ap (λ k. k ∷ (rest ++ 10 ∷ [])) is;
+      same_lines = feed_case b (rest ++ 10 ∷ []) true e ∙ ap (λ ls. [] ∷ ls) h.same_lines ∙ sym (feed_case b rest true e);
+    })
+join_case b [] false e h = inr (record {
+  joined_is = ap joined (feed_case b [] false e);
+  same_lines = feed_case b (10 ∷ []) false e ∙ sym (feed_case b [] false e);
+})
+join_case b (c ∷ cs) false e (inl h) =
+    inl (ap joined (feed_case b (c ∷ cs) false e) ∙ joined-first b (lines_of (c ∷ cs)) (some_line c cs (c == 10)) ∙ ap (λ t. b ∷ t) h)
+join_case b (c ∷ cs) false e (inr h) = inr (record {
+  joined_is = ap joined (feed_case b (c ∷ cs) false e) ∙ joined-first b (lines_of (c ∷ cs)) (some_line c cs (c == 10)) ∙ ap (λ t. b ∷ t) h.joined_is;
+  same_lines = feed_case b (c ∷ cs ++ 10 ∷ []) false e ∙ ap (with_first b) h.same_lines ∙ sym (feed_case b (c ∷ cs) false e);
+})
+
+joined-lines_of : (bytes : List ℕ) → (joined (lines_of bytes) ≡ bytes) ⊎ Lacks bytes
+joined-lines_of [] = inl refl
+joined-lines_of (b ∷ rest) = join_case b rest (b == 10) refl (joined-lines_of rest)
+
+written_is : (pool : ℕ) (bytes : List ℕ) (lines : List Line) → scenario_of pool bytes ≡ Ok lines → joined (lines_of bytes) ≡ written lines
+written_is pool bytes lines h =
+    let s = spelled pool [] (lines_of bytes) lines (record { servers = omega arith; items = omega arith }) h in
+    ap joined s.texts_are ∙ joined-texts s.more ∙ ap written (sym s.lines_are)
+
+-- what was read is what would be written, but for the last line feed
+pub written_again : (pool : ℕ) (bytes : List ℕ) (lines : List Line) → scenario_of pool bytes ≡ Ok lines → (bytes ≡ written lines) ⊎ (bytes ++ 10 ∷ [] ≡ written lines)
+written_again pool bytes lines h =
+    elim (joined-lines_of bytes) [
+      | inl e ↦ inl (sym e ∙ written_is pool bytes lines h)
+      | inr l ↦ inr (sym l.joined_is ∙ written_is pool bytes lines h)
+    ]
+
+-- what is written of a scenario is read as the same lines
+pub reads_again : (pool : ℕ) (bytes : List ℕ) (lines : List Line) → scenario_of pool bytes ≡ Ok lines → scenario_of pool (written lines) ≡ Ok lines
+reads_again pool bytes lines h =
+    elim (joined-lines_of bytes) [
+      | inl e ↦ ap (scenario_of pool) (sym (written_is pool bytes lines h) ∙ e) ∙ h
+      | inr l ↦ ap (valid_from pool []) (ap lines_of (sym (written_is pool bytes lines h) ∙ l.joined_is) ∙ l.same_lines) ∙ h
+    ]
