@@ -11,6 +11,7 @@ mod writing;
 
 use command::run;
 use status::{Status, code_of, words_of};
+use std::env::Env;
 use std::process::ExitCode;
 use std::{env, io};
 use ua_edge::{ReadSource, WriteSink};
@@ -28,12 +29,25 @@ fn run_words(rt: &HostRuntime, arguments: &[String]) -> Status {
     run(rt.alloc(), words.as_slice(), &mut input, &mut output)
 }
 
+/// The place of the first word that fits no command, where some word is no UTF-8: such a word fits none.
+fn place_of_faulty(rt: &HostRuntime) -> usize {
+    let mut word = [0u8; 16];
+    match rt.arg(1, &mut word) {
+        Ok(count) if &word[..count] == b"replay".as_slice() => 1,
+        _ => 0,
+    }
+}
+
 /// Runs the command of the program's arguments. One that is no UTF-8 makes a faulty command line.
 fn run_arguments(rt: &HostRuntime) -> Status {
     let arguments = match env::args(rt) {
         Ok(arguments) => arguments,
         Err(error) if error.kind() == io::ErrorKind::OutOfMemory => return Status::Memory,
-        Err(_) => return Status::Usage { place: 0 },
+        Err(_) => {
+            return Status::Usage {
+                place: place_of_faulty(rt),
+            };
+        }
     };
     let mut words = Vec::new(rt.alloc());
     for argument in arguments.skip(1) {
