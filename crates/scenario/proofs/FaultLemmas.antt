@@ -77,7 +77,7 @@ passes pool before f h =
     (starts_running before f) (starts_too_often before f) (source_fault before f) (listener_fault pool before f) h in
     record { place = all.place; range = all.range; built = all.built; server = all.server; item = all.item; running = all.running; stopped = all.stopped; boots = all.boots; source = all.source; listener = all.listener }
 
-verdict_ok : (o : Option FaultKind) (g : Option Form) (l : Line) → verdict o g ≡ Ok l → (o ≡ None) × (f : Form) × (g ≡ Some f) × (line_of f ≡ l)
+pub verdict_ok : (o : Option FaultKind) (g : Option Form) (l : Line) → verdict o g ≡ Ok l → (o ≡ None) × (f : Form) × (g ≡ Some f) × (line_of f ≡ l)
 verdict_ok (Some k) g l h = absurd cc
 verdict_ok None None l h = absurd cc
 verdict_ok None (Some f) l h = (refl, f, refl, cc)

@@ -282,6 +282,12 @@ items_got ws f h =
     ap (λ more. codes "items" ∷ more) (number_got ws a.0 a.1 ∙ ap (λ more. numeral a.0.0 ∷ more)
     (queue_got a.0.1 b.0 b.1 ∙ ap (λ more. codes "queue" ∷ more) (one_got b.0 c.0 c.1))) ∙ ap form_words e
 
+change_joined : (ws us vs rest : List (List ℕ)) (i t : ℕ) (v : ℤ) (f : Form) → ws ≡ numeral i ∷ us → us ≡ numeral t ∷ vs → vs ≡ signed_numeral v ∷ rest → rest ≡ []
+    → form.Change i t v ≡ f → codes "change" ∷ ws ≡ form_words f
+change_joined ws us vs rest i t v f a b c d e =
+    ap (λ more. codes "change" ∷ more) (a ∙ ap (λ more. numeral i ∷ more) (b ∙ ap (λ more. numeral t ∷ more) (c ∙ ap (λ more. signed_numeral v ∷ more) d)))
+    ∙ ap form_words e
+
 change_got : (ws : List (List ℕ)) (f : Form) → change_form plain ws ≡ Some f → codes "change" ∷ ws ≡ form_words f
 change_got ws f h =
     let a = got (number_at plain ws) (λ i. number_at plain i.1 >>= λ t. integer_at plain t.1 >>= λ v. last_at v.1 >>= λ _. Some (form.Change i.0 t.0 v.0)) f h in
@@ -289,9 +295,7 @@ change_got ws f h =
     let c = got (integer_at plain b.0.1) (λ v. last_at v.1 >>= λ _. Some (form.Change a.0.0 b.0.0 v.0)) f b.2 in
     let d = got (last_at c.0.1) (λ _. Some (form.Change a.0.0 b.0.0 c.0.0)) f c.2 in
     let e : form.Change a.0.0 b.0.0 c.0.0 ≡ f = cc in
-    ap (λ more. codes "change" ∷ more) (number_got ws a.0 a.1 ∙ ap (λ more. numeral a.0.0 ∷ more)
-    (number_got a.0.1 b.0 b.1 ∙ ap (λ more. numeral b.0.0 ∷ more)
-    (integer_got b.0.1 c.0 c.1 ∙ ap (λ more. signed_numeral c.0.0 ∷ more) (last_got c.0.1 d.0 d.1)))) ∙ ap form_words e
+    change_joined ws a.0.1 b.0.1 c.0.1 a.0.0 b.0.0 c.0.0 f (number_got ws a.0 a.1) (number_got a.0.1 b.0 b.1) (integer_got b.0.1 c.0 c.1) (last_got c.0.1 d.0 d.1) e
 
 two_form_got : (name : List ℕ) (g : ℕ → ℕ → Form) → ((m n : ℕ) → name ∷ (numeral m ∷ numeral n ∷ []) ≡ form_words (g m n))
     → (ws : List (List ℕ)) (f : Form) → (two_numbers plain ws >>= λ n. Some (g n.0 n.1)) ≡ Some f → name ∷ ws ≡ form_words f

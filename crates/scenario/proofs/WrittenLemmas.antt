@@ -11,11 +11,12 @@ use Rattle.scenario.specs.declared.form.Form.TheVariants as form
 use Rattle.scenario.specs.declared.line.Line.{Line}
 use Rattle.scenario.specs.Texts.{mode_text, line_text, written}
 use Rattle.scenario.specs.Words.{with_first, lines_of, numeral, signed_numeral}
-use Rattle.scenario.specs.Grammar.{last_at, form_text}
+use Rattle.scenario.specs.Grammar.{last_at, form_of, form_text}
 use Rattle.scenario.specs.Past.{servers_of, items_of, servers_in, items_in, has_ended}
-use Rattle.scenario.specs.Faults.{is_within, fits_value, line_of, judged}
+use Rattle.scenario.specs.Faults.{is_within, fits_value, fault_of, line_of, judged}
 use Rattle.scenario.specs.Scenario.{kind_at_end, valid_from, scenario_of}
-use Rattle.scenario.proofs.FaultLemmas.{Passes, taken, within_range}
+use Rattle.scenario.specs.Valid.{AllAllowed}
+use Rattle.scenario.proofs.FaultLemmas.{Passes, taken, within_range, verdict_ok}
 use Rattle.scenario.proofs.NumeralLemmas.{numeral-decimal, signed_numeral-decimal}
 use Rattle.scenario.proofs.GrammarLemmas.{form_text-form_of}
 use Rattle.scenario.proofs.ValidLemmas.{ended_ok, go_on_ok}
@@ -135,16 +136,17 @@ small_more before l small few =
       items = elim (items_either before l) [ inl e ↦ omega arith | inr e ↦ omega arith ];
     }
 
--- the texts of a valid text are its lines' texts
-record Spelled (before lines : List Line) (texts : List (List ℕ)) : Type 0 where
+-- the texts of a valid text are its lines' texts, and nothing is wrong with any
+record Spelled (pool : ℕ) (before lines : List Line) (texts : List (List ℕ)) : Type 0 where
   more : List Line
   lines_are : lines ≡ before ++ more
   texts_are : texts ≡ map line_text more
+  allowed : AllAllowed pool before more
 
-spelled : (pool : ℕ) (before : List Line) (texts : List (List ℕ)) (lines : List Line) → Small before → valid_from pool before texts ≡ Ok lines → Spelled before lines texts
+spelled : (pool : ℕ) (before : List Line) (texts : List (List ℕ)) (lines : List Line) → Small before → valid_from pool before texts ≡ Ok lines → Spelled pool before lines texts
 spelled pool before [] lines small h =
     let e = ended_ok (has_ended before) before lines (record { line = length before + 1; kind = kind_at_end before }) refl h in
-    record { more = []; lines_are = sym e.1 ∙ sym (append-nil before); texts_are = refl }
+    record { more = []; lines_are = sym e.1 ∙ sym (append-nil before); texts_are = refl; allowed = tt }
 spelled pool before (text ∷ texts) lines small h =
     let g = go_on_ok before lines (λ l. valid_from pool (before ++ l ∷ []) texts) (judged pool before text) h in
     let t = taken pool before text g.0 g.1 in
@@ -155,6 +157,7 @@ spelled pool before (text ∷ texts) lines small h =
       more = g.0 ∷ s.more;
       lines_are = s.lines_are ∙ append_assoc before (g.0 ∷ []) s.more;
       texts_are = ap (λ first. first ∷ texts) same ∙ ap (λ rest. line_text g.0 ∷ rest) s.texts_are;
+      allowed = (ap (fault_of pool before) (sym same) ∙ (verdict_ok (fault_of pool before text) (form_of text) g.0 g.1).0, s.allowed);
     }
 
 -- texts, each with a line feed
@@ -231,3 +234,10 @@ reads_again pool bytes lines h =
       | inl e ↦ ap (scenario_of pool) (sym (written_is pool bytes lines h) ∙ e) ∙ h
       | inr l ↦ ap (valid_from pool []) (ap lines_of (sym (written_is pool bytes lines h) ∙ l.joined_is) ∙ l.same_lines) ∙ h
     ]
+
+-- nothing is wrong with any line of a valid text after those before it
+pub all_allowed : (pool : ℕ) (bytes : List ℕ) (lines : List Line) → scenario_of pool bytes ≡ Ok lines → AllAllowed pool [] lines
+all_allowed pool bytes lines h =
+    let s = spelled pool [] (lines_of bytes) lines (record { servers = omega arith; items = omega arith }) h in
+    let P : List Line → Type 0 = λ all. AllAllowed pool [] all in
+    subst P (sym s.lines_are) s.allowed

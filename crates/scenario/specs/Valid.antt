@@ -1,11 +1,13 @@
 -- What the lines of a scenario are, said of the lines alone.
-use Rattle.std.specs.Prelude.{◌≡◌, ℕ, ◌≤◌, List, [], ◌∷◌, ◌++◌, length}
+use Rattle.std.specs.Prelude.{◌≡◌, None, ℕ, ◌≤◌, List, [], ◌∷◌, ◌++◌, length}
 use Rattle.ua_base.specs.declared.modes.SetMode.TheVariants.{Direct}
 use Rattle.set_model.specs.declared.source.TheConstants.{MOST_CHANGES}
 use Rattle.set_model.specs.Source.{IsSource}
 use Rattle.scenario.specs.declared.line.Line.{Line}
 use Rattle.scenario.specs.declared.line.Line.TheVariants as line
+use Rattle.scenario.specs.Texts.{line_text}
 use Rattle.scenario.specs.Past.{boot_of, changes_in, listens_in}
+use Rattle.scenario.specs.Faults.{fault_of}
 
 abbrev pub IsFrom : ℕ → ℕ → ℕ → Type 0
 IsFrom low high number = (low ≤ number) × (number ≤ high)
@@ -43,3 +45,8 @@ pub record IsScenario (pool : ℕ) (lines : List Line) : Type 0 where
   pub few_lines : length lines ≤ 1000000
   pub few_listens : listens_in lines ≤ pool
   pub few_boots : (server : ℕ) → boot_of server lines ≤ 65535
+
+-- nothing is wrong with any of these lines after those before it
+abbrev pub AllAllowed : ℕ → List Line → List Line → Type 0
+AllAllowed pool before [] = Unit {0}
+AllAllowed pool before (l ∷ ls) = (fault_of pool before (line_text l) ≡ None) × AllAllowed pool (before ++ l ∷ []) ls

@@ -1,15 +1,17 @@
 //! What holds of every scenario, as contracts of functions that do nothing.
-ghost use Rattle.std.specs.Prelude.{◌≡◌, ◌++◌, ◌⊎◌, ℕ, List, Ok, Some, codes};
+ghost use Rattle.std.specs.Prelude.{◌≡◌, ◌++◌, ◌⊎◌, ℕ, List, [], Ok, Some, codes};
 ghost use Rattle.scenario.specs.declared.form.Form.{Form};
 ghost use Rattle.scenario.specs.declared.line.Line.{Line};
 ghost use Rattle.scenario.specs.Grammar.{form_of, form_text};
 ghost use Rattle.scenario.specs.Scenario.{scenario_of};
 ghost use Rattle.scenario.specs.Texts.{written};
-ghost use Rattle.scenario.specs.Valid.{IsScenario};
+ghost use Rattle.scenario.specs.Valid.{AllAllowed, IsScenario};
 
-/// The lines of each valid text are a scenario: the set, the items, lines that fit them, and `end`.
+/// The lines of each valid text are a scenario: the set, the items, lines that fit them, and `end`;
+/// and nothing is wrong with any line after those before it.
 pub fn valid_lines()
-    ensures { (pool : ℕ) (bytes : List ℕ) (lines : List Line) → scenario_of pool bytes ≡ Ok lines → IsScenario pool lines }
+    ensures shape { (pool : ℕ) (bytes : List ℕ) (lines : List Line) → scenario_of pool bytes ≡ Ok lines → IsScenario pool lines }
+    ensures order { (pool : ℕ) (bytes : List ℕ) (lines : List Line) → scenario_of pool bytes ≡ Ok lines → AllAllowed pool [] lines }
 {}
 
 /// The language is canonical: a text has a form exactly where it is that form's one spelling.

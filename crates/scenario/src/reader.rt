@@ -3,6 +3,7 @@ ghost use Rattle.std.specs.Vec.{vec_capacity};
 ghost use Rattle.std.specs.List.{list_any};
 ghost use Rattle.scenario.specs.declared.form.Form.TheVariants as form;
 ghost use Rattle.scenario.specs.declared.fault.FaultKind.TheVariants as kind;
+ghost use Rattle.scenario.specs.declared.fault.ReadError.TheVariants as errors;
 ghost use Rattle.scenario.specs.Words.{words_of};
 ghost use Rattle.scenario.specs.Past.{attached_in, change_of, changes_in, has_ended, ids_after, listens_in};
 ghost use Rattle.scenario.specs.Faults.{content_verdict, fits_value, has_item, has_no_listener, has_server, is_in_place, is_within, judged, misses_set, tested, the_change, kind_of_refusal, running_server, verdict, any_form_fault};
@@ -379,6 +380,14 @@ impl Reader {
         Ok(())
     }
 
+    /// This kind of fault in the next line.
+    fn fault_here(&self, kind: FaultKind) -> ReadError
+        ensures { result ≡ errors.Fault (record { line = length self.now + 1; kind = kind }) }
+    {
+        let line = self.lines.len() as u64 + 1;
+        ReadError::Fault(ScenarioFault { line, kind })
+    }
+
     /// Reads one line more.
     pub(crate) fn step(&mut self, pool: usize, text: &[u8]) -> Result<Line, ReadError>
         ensures { Steps (judged pool self.old text.now) self.old result self.new }
@@ -388,10 +397,7 @@ impl Reader {
                 self.take(line)?;
                 Ok(line)
             }
-            Err(kind) => Err(ReadError::Fault(ScenarioFault {
-                line: self.lines.len() as u64 + 1,
-                kind,
-            })),
+            Err(kind) => Err(self.fault_here(kind)),
         }
     }
 
@@ -407,9 +413,6 @@ impl Reader {
         } else {
             FaultKind::NoEnd
         };
-        Err(ReadError::Fault(ScenarioFault {
-            line: self.lines.len() as u64 + 1,
-            kind,
-        }))
+        Err(self.fault_here(kind))
     }
 }
