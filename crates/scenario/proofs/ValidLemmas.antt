@@ -192,7 +192,7 @@ room_step : (pool : ℕ) (before : List Line) (f : Form) → Passes pool before 
     → length (changes_in before ++ change_of (line_of f)) ≤ MOST_CHANGES
 room_step pool before (form.Change item time value) h few =
     let room : length (changes_in before) < MOST_CHANGES =
-        room_left (changes_in before) (the_change item time value) (not_refused (changes_in before) (the_change item time value) h.source) in
+    room_left (changes_in before) (the_change item time value) (not_refused (changes_in before) (the_change item time value) h.source) in
     omega (arith, length-append (changes_in before) (the_change item time value ∷ []))
 room_step pool before (form.Set mode servers) h few = rw (append-nil (changes_in before)) few
 room_step pool before (form.Items items queue) h few = rw (append-nil (changes_in before)) few

@@ -1,7 +1,7 @@
 ghost use Rattle.std.specs.Prelude.{◌≡◌, ℕ, ◌≤◌, None, length};
 
 use crate::{Put, Sink, Source, Took};
-use std::io::{ErrorKind, Read, Write};
+use std::io::{Read, Write};
 
 /// A source over a reader, as standard input. It tells what the reader tells.
 #[derive(Drop)]
@@ -12,7 +12,10 @@ pub struct ReadSource<R: Read + Drop> {
 
 impl<R: Read + Drop> ReadSource<R> {
     /// A source over this reader.
-    pub fn new(reader: R) -> ReadSource<R> {
+    pub fn new(reader: R) -> ReadSource<R>
+        ensures reader { result.reader ≡ reader }
+        ensures faults { result.faults ≡ 0 }
+    {
         ReadSource { reader, faults: 0 }
     }
 }
@@ -43,7 +46,10 @@ pub struct WriteSink<W: Write + Drop> {
 
 impl<W: Write + Drop> WriteSink<W> {
     /// A sink over this writer.
-    pub fn new(writer: W) -> WriteSink<W> {
+    pub fn new(writer: W) -> WriteSink<W>
+        ensures writer { result.writer ≡ writer }
+        ensures faults { result.faults ≡ 0 }
+    {
         WriteSink { writer, faults: 0 }
     }
 }
