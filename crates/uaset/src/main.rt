@@ -7,6 +7,7 @@ mod replay;
 mod status;
 #[cfg(test)]
 mod tests;
+mod worked;
 mod writing;
 
 use command::run;
