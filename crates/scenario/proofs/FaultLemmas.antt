@@ -3,6 +3,10 @@ use Rattle.std.proofs.Common.{◌≡◌, ◌==◌, ℕ, ◌<◌, ◌≤◌, List
 use Rattle.std.specs.Prelude.{nat_le, ◌||◌}
 use Rattle.std.proofs.lemmas.Bool.Decides.{nat_tests}
 use Rattle.std.proofs.lemmas.Bool.{and_parts}
+use Rattle.set_model.specs.declared.source.SourceFault.{SourceFault}
+use Rattle.set_model.specs.declared.source.SourceFault.TheVariants.{Full}
+use Rattle.set_model.specs.declared.source.TheConstants.{MOST_CHANGES}
+use Rattle.set_model.specs.Source.{last_of, refusal_after}
 use Rattle.scenario.specs.declared.form.Form.{Form}
 use Rattle.scenario.specs.declared.form.Form.TheVariants as form
 use Rattle.scenario.specs.declared.line.Line.{Line}
@@ -11,8 +15,8 @@ use Rattle.scenario.specs.declared.fault.FaultKind.TheVariants as kind
 use Rattle.scenario.specs.declared.reader.TheConstants.{MOST_LINES}
 use Rattle.scenario.specs.Words.{words_of}
 use Rattle.scenario.specs.Grammar.{form_of}
-use Rattle.scenario.specs.Past.{servers_in, boot_of, has_ended, listens_in, attached_in}
-use Rattle.scenario.specs.Faults.{misses_set, is_in_place, is_within, is_in_range, is_built, has_its_server, has_its_item, needs_running, starts_running, starts_too_often, source_fault, listener_fault, or_fault, form_fault, any_form_fault, fault_of, line_of, verdict, judged}
+use Rattle.scenario.specs.Past.{servers_in, changes_in, boot_of, has_ended, listens_in, attached_in}
+use Rattle.scenario.specs.Faults.{misses_set, is_in_place, is_within, is_in_range, is_built, has_its_server, has_its_item, needs_running, starts_running, starts_too_often, the_change, kind_of_refusal, source_fault, listener_fault, or_fault, form_fault, any_form_fault, fault_of, line_of, verdict, judged}
 use Rattle.scenario.specs.Reading.{MayFollow}
 
 pub passed : (b : Bool) (k : FaultKind) (r : Option FaultKind) → cond b (Some k) r ≡ None → (b ≡ false) × (r ≡ None)
@@ -115,11 +119,17 @@ under low n h = grind (arith, nat_tests)
 no_listener : (pool n m : ℕ) → cond (nat_le pool n || nat_le 16 m || nat_le 255 n) (Some kind.NoListener) None ≡ None → n < 255
 no_listener pool n m h = grind (arith, nat_tests)
 
+-- a source that is full refuses each change
+not_full : (full : Bool) (n : ℕ) (r : Option SourceFault) → nat_le MOST_CHANGES n ≡ full → kind_of_refusal (cond full (Some Full) r) ≡ None → n < MOST_CHANGES
+not_full true n r is h = absurd cc
+not_full false n r is h = grind (arith, nat_tests)
+
 may : (pool : ℕ) (before : List Line) (f : Form) → Passes pool before f → MayFollow before (line_of f)
 may pool before (form.Set mode servers) h = (set_place _ (has_ended before) h.place, (within_range 1 8 servers h.range).1)
 may pool before (form.Items items queue) h =
     (items_place _ (has_ended before) h.place, (within_range 1 64 items (and_parts (is_within 1 64 items) (is_within 2 1000 queue) h.range).0).1)
-may pool before (form.Change item time value) h = tt
+may pool before (form.Change item time value) h =
+    not_full _ (length (changes_in before)) (refusal_after (last_of item (changes_in before)) (the_change item time value)) refl h.source
 may pool before (form.Feed server count) h = tt
 may pool before (form.Take server count) h = tt
 may pool before (form.Stop server) h = within_range 1 (servers_in before) server h.server

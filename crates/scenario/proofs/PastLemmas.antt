@@ -2,18 +2,21 @@
 use Rattle.std.proofs.Common.{◌≡◌, ◌≢◌, ◌==◌, ℕ, ◌+◌, ◌-◌, ◌<◌, ◌≤◌, List, [], ◌∷◌, ◌++◌, Bool, true, false, cond, Some, length, reverse, refl, sym, ◌∙◌, ap, subst, arith, slice_index_or}
 use Rattle.std.specs.Prelude.{find, filter, slice_set, ◌||◌}
 use Rattle.std.proofs.lemmas.Bool.Decides.{nat_tests}
-use Rattle.std.proofs.lemmas.List.{reverse-append, reverse-reverse, append-nil, length-append, get_or-set_other}
+use Rattle.std.proofs.lemmas.List.{reverse-append, reverse-reverse, append-nil, length-append, get_or-set_other, get_or-replicate}
 use Rattle.std.proofs.lemmas.List.Concat.{flat_map-append}
 use Rattle.std.proofs.lemmas.List.Folds.{list_any-append}
 use Rattle.std.proofs.lemmas.Grind.{get_or-set_at}
 use Rattle.std.proofs.lemmas.List.Elements.{filter-append}
 use Rattle.set_model.specs.declared.source.Change.{Change}
+use Rattle.set_model.specs.declared.source.TheConstants.{MOST_CHANGES}
+use Rattle.set_model.specs.Source.{End, no_end, IsEndOf}
+use Rattle.set_model.proofs.SourceLemmas.{no_end_is}
 use Rattle.scenario.specs.declared.line.Line.{Line}
 use Rattle.scenario.specs.declared.line.Line.TheVariants as line
 use Rattle.scenario.specs.declared.tally.Life.{Life}
 use Rattle.scenario.specs.declared.tally.Tally.{Tally}
 use Rattle.scenario.specs.Past.{servers_of, items_of, servers_in, items_in, change_of, changes_in, starts, turns, runs_after, is_running, boot_of, ends, has_ended, listens, listens_in, ids_after, attached_before, attached_in}
-use Rattle.scenario.specs.Reading.{fresh, life_of, tally_after, Recalls, MayFollow}
+use Rattle.scenario.specs.Reading.{fresh, life_of, blank_tally, tally_after, EndHasRoom, Recalls, MayFollow}
 
 pub changes_in-more : (ls : List Line) (l : Line) → changes_in (ls ++ l ∷ []) ≡ changes_in ls ++ change_of l
 changes_in-more ls l = flat_map-append change_of ls (l ∷ []) ∙ ap (λ cs. changes_in ls ++ cs) (append-nil (change_of l))
@@ -157,10 +160,10 @@ record Told (ls : List Line) (t : Tally) (l : Line) : Type 0 where
   heard : t.listens ≡ listens_in (ls ++ l ∷ [])
   ended : t.ended ≡ has_ended (ls ++ l ∷ [])
 
-recalls_by : (ls : List Line) (cs : List Change) (t u : Tally) (ids : List ℕ) (l : Line) → Recalls ls cs t ids → Told ls u l
-    → Recalls (ls ++ l ∷ []) (cs ++ change_of l) u (ids_after (t.listens + 1) ids l)
-recalls_by ls cs t u ids l h told = record {
-  changes_are = ap (λ ds. ds ++ change_of l) h.changes_are ∙ sym (changes_in-more ls l);
+recalls_by : (ls : List Line) (end more : End) (t u : Tally) (ids : List ℕ) (l : Line) → Recalls ls end t ids → IsEndOf more (changes_in ls ++ change_of l) → Told ls u l
+    → Recalls (ls ++ l ∷ []) more u (ids_after (t.listens + 1) ids l)
+recalls_by ls end more t u ids l h grown told = record {
+  source_is = let P : List Change → Type 0 = λ cs. IsEndOf more cs in subst P (sym (changes_in-more ls l)) grown;
   servers_are = told.servers;
   few_servers = told.few_servers;
   few_items = told.few_items;
@@ -172,10 +175,10 @@ recalls_by ls cs t u ids l h told = record {
 }
 
 -- a line that says nothing of what the table has
-told_same : (ls : List Line) (cs : List Change) (t : Tally) (ids : List ℕ) (l : Line) → Recalls ls cs t ids
+told_same : (ls : List Line) (end : End) (t : Tally) (ids : List ℕ) (l : Line) → Recalls ls end t ids
     → servers_of l ≡ 0 → items_of l ≡ 0 → ((server : ℕ) → turns server l ≡ false) → ((server : ℕ) → starts server l ≡ false) → listens l ≡ false → ends l ≡ false
     → Told ls t l
-told_same ls cs t ids l h s i turn start listen end = record {
+told_same ls end t ids l h s i turn start listen last = record {
   servers = h.servers_are ∙ sym (servers_in-more ls l s);
   few_servers = h.few_servers;
   few_items = h.few_items;
@@ -183,15 +186,15 @@ told_same ls cs t ids l h s i turn start listen end = record {
   lives = lives_kept t.lives ls l h.lives_are turn start;
   heard = let e : listens_in (ls ++ l ∷ []) ≡ listens_in ls + 0 = listens_in-more ls l ∙ ap (λ b. listens_in ls + cond b 1 0) listen in
       let k : t.listens ≡ listens_in ls = h.listens_are in omega arith;
-  ended = h.ended_is ∙ sym (has_ended-more ls l ∙ ap (λ b. cond b true (has_ended ls)) end);
+  ended = h.ended_is ∙ sym (has_ended-more ls l ∙ ap (λ b. cond b true (has_ended ls)) last);
 }
 
 -- what is recalled stays what the lines say
-pub recalls_more : (ls : List Line) (cs : List Change) (t : Tally) (ids : List ℕ) (l : Line) → length t.lives ≡ 8 → Recalls ls cs t ids → MayFollow ls l
-    → Recalls (ls ++ l ∷ []) (cs ++ change_of l) (tally_after t l) (ids_after (t.listens + 1) ids l)
-recalls_more ls cs t ids (line.Set mode servers) long h may =
+pub recalls_more : (ls : List Line) (end more : End) (t : Tally) (ids : List ℕ) (l : Line) → length t.lives ≡ 8 → Recalls ls end t ids → MayFollow ls l → IsEndOf more (changes_in ls ++ change_of l)
+    → Recalls (ls ++ l ∷ []) more (tally_after t l) (ids_after (t.listens + 1) ids l)
+recalls_more ls end more t ids (line.Set mode servers) long h may grown =
     let l : Line = line.Set mode servers in
-    recalls_by ls cs t _ ids l h (record {
+    recalls_by ls end more t _ ids l h grown (record {
       servers = sym (servers_first ls l may.0);
       few_servers = may.1;
       few_items = h.few_items;
@@ -200,9 +203,9 @@ recalls_more ls cs t ids (line.Set mode servers) long h may =
       heard = let e : listens_in (ls ++ line.Set mode servers ∷ []) ≡ listens_in ls + 0 = listens_in-more ls (line.Set mode servers) in let k : t.listens ≡ listens_in ls = h.listens_are in omega arith;
       ended = h.ended_is ∙ sym (has_ended-more ls l);
     })
-recalls_more ls cs t ids (line.Items items queue) long h may =
+recalls_more ls end more t ids (line.Items items queue) long h may grown =
     let l : Line = line.Items items queue in
-    recalls_by ls cs t _ ids l h (record {
+    recalls_by ls end more t _ ids l h grown (record {
       servers = h.servers_are ∙ sym (servers_in-more ls l refl);
       few_servers = h.few_servers;
       few_items = may.1;
@@ -211,18 +214,18 @@ recalls_more ls cs t ids (line.Items items queue) long h may =
       heard = let e : listens_in (ls ++ line.Items items queue ∷ []) ≡ listens_in ls + 0 = listens_in-more ls (line.Items items queue) in let k : t.listens ≡ listens_in ls = h.listens_are in omega arith;
       ended = h.ended_is ∙ sym (has_ended-more ls l);
     })
-recalls_more ls cs t ids (line.Change change) long h may =
-    recalls_by ls cs t _ ids (line.Change change) h (told_same ls cs t ids (line.Change change) h refl refl (λ _. refl) (λ _. refl) refl refl)
-recalls_more ls cs t ids (line.Feed server count) long h may =
-    recalls_by ls cs t _ ids (line.Feed server count) h (told_same ls cs t ids (line.Feed server count) h refl refl (λ _. refl) (λ _. refl) refl refl)
-recalls_more ls cs t ids (line.Take server count) long h may =
-    recalls_by ls cs t _ ids (line.Take server count) h (told_same ls cs t ids (line.Take server count) h refl refl (λ _. refl) (λ _. refl) refl refl)
-recalls_more ls cs t ids (line.Unlisten id) long h may =
-    recalls_by ls cs t _ ids (line.Unlisten id) h (told_same ls cs t ids (line.Unlisten id) h refl refl (λ _. refl) (λ _. refl) refl refl)
-recalls_more ls cs t ids (line.Stop server) long h may =
+recalls_more ls end more t ids (line.Change change) long h may grown =
+    recalls_by ls end more t _ ids (line.Change change) h grown (told_same ls end t ids (line.Change change) h refl refl (λ _. refl) (λ _. refl) refl refl)
+recalls_more ls end more t ids (line.Feed server count) long h may grown =
+    recalls_by ls end more t _ ids (line.Feed server count) h grown (told_same ls end t ids (line.Feed server count) h refl refl (λ _. refl) (λ _. refl) refl refl)
+recalls_more ls end more t ids (line.Take server count) long h may grown =
+    recalls_by ls end more t _ ids (line.Take server count) h grown (told_same ls end t ids (line.Take server count) h refl refl (λ _. refl) (λ _. refl) refl refl)
+recalls_more ls end more t ids (line.Unlisten id) long h may grown =
+    recalls_by ls end more t _ ids (line.Unlisten id) h grown (told_same ls end t ids (line.Unlisten id) h refl refl (λ _. refl) (λ _. refl) refl refl)
+recalls_more ls end more t ids (line.Stop server) long h may grown =
     let l : Line = line.Stop server in
     let under : server ≤ 8 = let e : t.servers ≡ servers_in ls = h.servers_are in let f : t.servers ≤ 8 = h.few_servers in omega arith in
-    recalls_by ls cs t _ ids l h (record {
+    recalls_by ls end more t _ ids l h grown (record {
       servers = h.servers_are ∙ sym (servers_in-more ls l refl);
       few_servers = h.few_servers;
       few_items = h.few_items;
@@ -231,10 +234,10 @@ recalls_more ls cs t ids (line.Stop server) long h may =
       heard = let e : listens_in (ls ++ line.Stop server ∷ []) ≡ listens_in ls + 0 = listens_in-more ls (line.Stop server) in let k : t.listens ≡ listens_in ls = h.listens_are in omega arith;
       ended = h.ended_is ∙ sym (has_ended-more ls l);
     })
-recalls_more ls cs t ids (line.Start server) long h may =
+recalls_more ls end more t ids (line.Start server) long h may grown =
     let l : Line = line.Start server in
     let under : server ≤ 8 = let e : t.servers ≡ servers_in ls = h.servers_are in let f : t.servers ≤ 8 = h.few_servers in omega arith in
-    recalls_by ls cs t _ ids l h (record {
+    recalls_by ls end more t _ ids l h grown (record {
       servers = h.servers_are ∙ sym (servers_in-more ls l refl);
       few_servers = h.few_servers;
       few_items = h.few_items;
@@ -243,9 +246,9 @@ recalls_more ls cs t ids (line.Start server) long h may =
       heard = let e : listens_in (ls ++ line.Start server ∷ []) ≡ listens_in ls + 0 = listens_in-more ls (line.Start server) in let k : t.listens ≡ listens_in ls = h.listens_are in omega arith;
       ended = h.ended_is ∙ sym (has_ended-more ls l);
     })
-recalls_more ls cs t ids (line.Listen item) long h may =
+recalls_more ls end more t ids (line.Listen item) long h may grown =
     let l : Line = line.Listen item in
-    recalls_by ls cs t _ ids l h (record {
+    recalls_by ls end more t _ ids l h grown (record {
       servers = h.servers_are ∙ sym (servers_in-more ls l refl);
       few_servers = h.few_servers;
       few_items = h.few_items;
@@ -254,8 +257,8 @@ recalls_more ls cs t ids (line.Listen item) long h may =
       heard = let e : listens_in (ls ++ line.Listen item ∷ []) ≡ listens_in ls + 1 = listens_in-more ls (line.Listen item) in let k : t.listens ≡ listens_in ls = h.listens_are in omega arith;
       ended = h.ended_is ∙ sym (has_ended-more ls l);
     })
-recalls_more ls cs t ids line.End long h may =
-    recalls_by ls cs t _ ids line.End h (record {
+recalls_more ls end more t ids line.End long h may grown =
+    recalls_by ls end more t _ ids line.End h grown (record {
       servers = h.servers_are ∙ sym (servers_in-more ls line.End refl);
       few_servers = h.few_servers;
       few_items = h.few_items;
@@ -265,16 +268,38 @@ recalls_more ls cs t ids line.End long h may =
       ended = sym (has_ended-more ls line.End);
     })
 
-recalls_at : (ls ks : List Line) (cs ds : List Change) (t u : Tally) (ids others : List ℕ) → ls ≡ ks → cs ≡ ds → t ≡ u → ids ≡ others → Recalls ls cs t ids → Recalls ks ds u others
-recalls_at ls ks cs ds t u ids others e f g i h =
-    let P : List Line → Type 0 = λ x. Recalls x ds u others in
-    let Q : List Change → Type 0 = λ x. Recalls ls x u others in
-    let R : Tally → Type 0 = λ x. Recalls ls cs x others in
-    let S : List ℕ → Type 0 = λ x. Recalls ls cs t x in
-    subst P e (subst Q f (subst R g (subst S i h)))
+-- before any line nothing is recalled
+pub recalls_none : (end : End) → end ≡ no_end → Recalls [] end blank_tally []
+recalls_none end e = record {
+  source_is = no_end_is end e;
+  servers_are = refl;
+  few_servers = omega arith;
+  items_are = refl;
+  few_items = omega arith;
+  lives_are = λ server under. get_or-replicate 8 server fresh fresh under;
+  listens_are = refl;
+  ended_is = refl;
+  attached_are = refl;
+}
 
--- the same, of what a step leaves
-pub recalls_then : (ls ks : List Line) (cs ds : List Change) (t u : Tally) (ids others : List ℕ) (l : Line) → length t.lives ≡ 8 → Recalls ls cs t ids → MayFollow ls l
-    → ks ≡ ls ++ l ∷ [] → ds ≡ cs ++ change_of l → u ≡ tally_after t l → others ≡ ids_after (t.listens + 1) ids l → Recalls ks ds u others
-recalls_then ls ks cs ds t u ids others l long h may e f g i =
-    recalls_at _ _ _ _ _ _ _ _ (sym e) (sym f) (sym g) (sym i) (recalls_more ls cs t ids l long h may)
+-- equal parts recall equal lines
+pub recalls_at : (ls ks : List Line) (end : End) (t u : Tally) (ids others : List ℕ) → ls ≡ ks → t ≡ u → ids ≡ others → Recalls ls end t ids → Recalls ks end u others
+recalls_at ls ks end t u ids others e g i h =
+    let P : List Line → Type 0 = λ x. Recalls x end u others in
+    let R : Tally → Type 0 = λ x. Recalls ls end x others in
+    let S : List ℕ → Type 0 = λ x. Recalls ls end t x in
+    subst P e (subst R g (subst S i h))
+
+-- what a step leaves recalls one line more
+pub recalls_then : (ls ks : List Line) (end more : End) (t u : Tally) (ids others : List ℕ) (l : Line) → length t.lives ≡ 8 → Recalls ls end t ids → MayFollow ls l
+    → ks ≡ ls ++ l ∷ [] → IsEndOf more (changes_in ls ++ change_of l) → u ≡ tally_after t l → others ≡ ids_after (t.listens + 1) ids l → Recalls ks more u others
+recalls_then ls ks end more t u ids others l long h may e grown g i =
+    recalls_at _ _ _ _ _ _ _ (sym e) (sym g) (sym i) (recalls_more ls end more t ids l long h may grown)
+
+room_when : (n m : ℕ) → n ≡ m → m < MOST_CHANGES → n < MOST_CHANGES
+room_when n m e few = omega arith
+
+-- a line that may follow finds room at the end of the source
+pub end_has_room : (ls : List Line) (end : End) (l : Line) → IsEndOf end (changes_in ls) → MayFollow ls l → EndHasRoom end l
+end_has_room ls end (line.Change change) h may = room_when _ _ h.count_is may
+end_has_room ls end _ h may = tt

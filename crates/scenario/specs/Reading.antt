@@ -1,6 +1,7 @@
 -- What a reader recalls of the lines before, so that no line needs to be looked at again.
 use Rattle.std.specs.Prelude.{◌≡◌, ℕ, ◌+◌, ◌-◌, ◌<◌, ◌≤◌, List, [], ◌∷◌, ◌++◌, true, false, Result, Ok, Err, length, slice_index_or, slice_set, replicate}
-use Rattle.set_model.specs.declared.source.Change.{Change}
+use Rattle.set_model.specs.declared.source.TheConstants.{MOST_CHANGES}
+use Rattle.set_model.specs.Source.{End, IsEndOf}
 use Rattle.scenario.specs.declared.line.Line.{Line}
 use Rattle.scenario.specs.declared.line.Line.TheVariants as line
 use Rattle.scenario.specs.declared.fault.FaultKind.{FaultKind}
@@ -43,9 +44,14 @@ HasRoom tally (line.Start server) = (1 ≤ server) × (server ≤ 8) × ((life_i
 HasRoom tally (line.Listen item) = tally.listens < 255
 HasRoom tally _ = Unit {0}
 
+-- the end of the source has room for the line
+abbrev pub EndHasRoom : End → Line → Type 0
+EndHasRoom end (line.Change change) = end.count < MOST_CHANGES
+EndHasRoom end _ = Unit {0}
+
 -- what is recalled is what the lines say
-pub record Recalls (lines : List Line) (changes : List Change) (tally : Tally) (attached : List ℕ) : Type 0 where
-  pub changes_are : changes ≡ changes_in lines
+pub record Recalls (lines : List Line) (end : End) (tally : Tally) (attached : List ℕ) : Type 0 where
+  pub source_is : IsEndOf end (changes_in lines)
   pub servers_are : tally.servers ≡ servers_in lines
   pub few_servers : tally.servers ≤ 8
   pub items_are : tally.items ≡ items_in lines
@@ -59,6 +65,7 @@ pub record Recalls (lines : List Line) (changes : List Change) (tally : Tally) (
 abbrev pub MayFollow : List Line → Line → Type 0
 MayFollow lines (line.Set mode servers) = (length lines ≡ 0) × (servers ≤ 8)
 MayFollow lines (line.Items items queue) = (length lines ≡ 1) × (items ≤ 64)
+MayFollow lines (line.Change change) = length (changes_in lines) < MOST_CHANGES
 MayFollow lines (line.Stop server) = (1 ≤ server) × (server ≤ servers_in lines)
 MayFollow lines (line.Start server) = (1 ≤ server) × (server ≤ servers_in lines) × (boot_of server lines < 65535)
 MayFollow lines (line.Listen item) = listens_in lines < 255

@@ -7,8 +7,9 @@ ghost use Rattle.scenario.specs.declared.fault.ReadError.TheVariants as errors;
 ghost use Rattle.scenario.specs.Words.{words_of};
 ghost use Rattle.scenario.specs.Past.{attached_in, change_of, changes_in, has_ended, ids_after, listens_in};
 ghost use Rattle.scenario.specs.Faults.{content_verdict, fits_value, has_item, has_no_listener, has_server, is_in_place, is_within, judged, misses_set, tested, the_change, kind_of_refusal, running_server, verdict, any_form_fault};
-ghost use Rattle.set_model.specs.Source.{refusal};
-ghost use Rattle.scenario.specs.Reading.{HasRoom, life_of, MayFollow, Steps};
+ghost use Rattle.set_model.specs.Source.{refusal, IsEndOf};
+ghost use Rattle.set_model.specs.declared.source.Change.{Change};
+ghost use Rattle.scenario.specs.Reading.{EndHasRoom, HasRoom, life_of, MayFollow, Steps};
 ghost use Rattle.scenario.specs.Scenario.{ended, Reads};
 
 use crate::fault::{FaultKind, ReadError, ScenarioFault};
@@ -16,7 +17,7 @@ use crate::form::{Form, form_of};
 use crate::line::Line;
 use crate::tally::{Life, Tally};
 use crate::words::split_word;
-use set_model::{Change, SourceFault, SourceLog};
+use set_model::{Change, SourceEnd, SourceFault};
 use std::alloc::Global;
 use std::marker::Model;
 use ua_base::{OutOfMemory, SetMode};
@@ -29,11 +30,11 @@ const MOST_LISTENS: usize = 255;
 
 const MOST_ATTACHED: usize = 16;
 
-/// The lines read so far.
+/// The lines read so far, each kept once, and what is recalled of them.
 #[derive(Debug, Drop)]
 pub(crate) struct Reader {
     lines: Vec<Line>,
-    source: SourceLog,
+    source_end: SourceEnd,
     tally: Tally,
     attached: Vec<u8>,
 }
@@ -47,7 +48,7 @@ impl Model for Reader {
 
     ghost view = { λ r. r.lines.items };
 
-    ghost invariant = { λ r. Recalls r.lines.items r.source r.tally r.attached.items };
+    ghost invariant = { λ r. Recalls r.lines.items r.source_end r.tally r.attached.items };
 }
 
 /// The number as a `u32`, where it is within these bounds.
@@ -119,17 +120,14 @@ fn kind_of_refusal(refusal: Option<SourceFault>) -> Option<FaultKind>
     }
 }
 
-/// A change of the line goes into the source.
-fn feed_source(source: &mut SourceLog, line: Line) -> Result<(), OutOfMemory>
-    ensures ok { OnOk result (source.new ≡ source.old ++ change_of line) }
-    ensures err { OnErr result (source.new ≡ source.old) }
+/// A change of the line is the source's last one from now on.
+fn feed_source(source_end: &mut SourceEnd, line: Line)
+    requires { EndHasRoom source_end.old line }
+    ensures { (changes : List Change) → IsEndOf source_end.old changes → IsEndOf source_end.new (changes ++ change_of line) }
 {
     match line {
-        Line::Change { change } => match source.append(change) {
-            Ok(()) => Ok(()),
-            Err(_) => Err(OutOfMemory),
-        },
-        _ => Ok(()),
+        Line::Change { change } => source_end.add(change),
+        _ => {}
     }
 }
 
@@ -170,7 +168,7 @@ impl Reader {
     {
         Reader {
             lines: Vec::new(alloc),
-            source: SourceLog::new(alloc),
+            source_end: SourceEnd::new(),
             tally: Tally::new(),
             attached: Vec::new(alloc),
         }
@@ -251,7 +249,7 @@ impl Reader {
     fn source_fault(&self, change: Change) -> Option<FaultKind>
         ensures { result ≡ kind_of_refusal (refusal (changes_in self.now) change) }
     {
-        kind_of_refusal(self.source.refusal(change))
+        kind_of_refusal(self.source_end.refusal(change))
     }
 
     fn change_line(&self, item: u64, time: u64, value: i128) -> Result<Line, FaultKind>
@@ -373,7 +371,7 @@ impl Reader {
     {
         self.lines.reserve(1)?;
         self.attached.reserve(1)?;
-        feed_source(&mut self.source, line)?;
+        feed_source(&mut self.source_end, line);
         attach(&mut self.attached, self.tally, line);
         self.tally.add(line);
         push_reserved(&mut self.lines, line);

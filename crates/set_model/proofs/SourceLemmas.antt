@@ -1,5 +1,5 @@
 -- What one more change makes of a source: its last changes and the rise of each item.
-use Rattle.std.proofs.Common.{◌≡◌, ◌==◌, ℕ, ◌<◌, List, [], ◌∷◌, ◌++◌, Bool, true, false, cond, not, Option, Some, None, length, reverse, refl, sym, ◌∙◌, ap, arith, slice_index_or, int_lt}
+use Rattle.std.proofs.Common.{◌≡◌, ◌==◌, ℕ, ◌+◌, ◌<◌, List, [], ◌∷◌, ◌++◌, Bool, true, false, cond, not, Option, Some, None, length, reverse, refl, sym, ◌∙◌, ap, arith, slice_index_or, int_lt}
 use Rattle.std.specs.List.{find}
 use Rattle.std.proofs.Common.{subst, ◌<ℤ◌}
 use Rattle.std.specs.Prelude.{nat_le}
@@ -7,7 +7,7 @@ use Rattle.std.proofs.lemmas.Bool.Decides.{nat_tests}
 use Rattle.std.specs.Prelude.{if◌then◌else◌, slice_set}
 use Rattle.std.specs.Ordering.{int_eq}
 use Rattle.std.proofs.Common.{◌≢◌}
-use Rattle.std.proofs.lemmas.List.{reverse-append, append-nil, get_or-set_other, get_or-replicate}
+use Rattle.std.proofs.lemmas.List.{reverse-append, append-nil, length-append, length-replicate, length-set, get_or-set_other, get_or-replicate}
 use Rattle.std.proofs.lemmas.Grind.{get_or-set_at}
 use Rattle.std.proofs.lemmas.List.Elements.{filter-append}
 use Rattle.std.proofs.lemmas.Int.{ints}
@@ -16,7 +16,7 @@ use Rattle.set_model.specs.declared.source.Change.{Change}
 use Rattle.set_model.specs.declared.source.SourceFault.{SourceFault}
 use Rattle.set_model.specs.declared.source.SourceFault.TheVariants.{Full, TimeNotRising, SameValue}
 use Rattle.set_model.specs.declared.source.TheConstants.{MOST_CHANGES}
-use Rattle.set_model.specs.Source.{of_item, Follows, RisesAfter, Rises, IsSource, last_of, refusal, refusal_after, AreLasts, no_change}
+use Rattle.set_model.specs.Source.{of_item, Follows, RisesAfter, Rises, IsSource, last_of, refusal, refusal_after, AreLasts, End, no_end, end_after, last_at, refusal_at, IsEndOf}
 
 -- the last of a list that begins with c
 abbrev pub newest_from : Change → List Change → Change
@@ -125,23 +125,43 @@ lasts_more lasts cs c long within h = record {
   each = λ item under. lasts_at lasts cs c item long within h under _ refl ∙ sym (last_of-more item cs c);
 }
 
-empty_is : (lasts : List (Option Change)) (cs : List Change) → lasts ≡ no_change → [] ≡ cs → AreLasts lasts cs × IsSource cs
-empty_is lasts cs l e = let P : List Change → Type 0 = λ n. AreLasts lasts n × IsSource n in
-    subst P e (
-      record { each = λ item under. ap (λ t. slice_index_or t item None) l ∙ get_or-replicate 256 item None None under },
-      record { rises = λ item. tt },
-    )
+-- the end of no changes
+pub no_end_is : (end : End) → end ≡ no_end → IsEndOf end []
+no_end_is end e = let P : End → Type 0 = λ x. IsEndOf x [] in subst P (sym e) (record {
+  count_is = refl;
+  wide = length-replicate {A = Option Change} 256 None;
+  lasts_are = record { each = λ item under. get_or-replicate 256 item None None under };
+})
+
+-- the end after one change more
+pub end_more : (end : End) (cs : List Change) (c : Change) → c.item < 256 → IsEndOf end cs → IsEndOf (end_after end c) (cs ++ c ∷ [])
+end_more end cs c within h = record {
+  count_is = ap (λ n. n + 1) h.count_is ∙ sym (length-append cs (c ∷ []));
+  wide = length-set end.lasts c.item (Some c) ∙ h.wide;
+  lasts_are = lasts_more end.lasts cs c h.wide within h.lasts_are;
+}
+
+-- the end refuses what its source refuses
+pub refusal_is : (end : End) (cs : List Change) (c : Change) → c.item < 256 → IsEndOf end cs → refusal_at end c ≡ refusal cs c
+refusal_is end cs c within h =
+    ap (λ n. if nat_le MOST_CHANGES n then Some Full else refusal_after (last_at c.item end) c) h.count_is
+    ∙ ap (λ o. if nat_le MOST_CHANGES (length cs) then Some Full else refusal_after o c) (h.lasts_are.each c.item within)
+
+empty_is : (end : End) (cs : List Change) → end ≡ no_end → [] ≡ cs → IsEndOf end cs × IsSource cs
+empty_is end cs l e = let P : List Change → Type 0 = λ n. IsEndOf end n × IsSource n in
+    subst P e (no_end_is end l, record { rises = λ item. tt })
 
 -- an empty source is one
-pub empty_stands : (lasts : List (Option Change)) (cs : List Change) → lasts ≡ no_change → cs ≡ [] → AreLasts lasts cs × IsSource cs
-empty_stands lasts cs l e = empty_is lasts cs l (sym e)
+pub empty_stands : (end : End) (cs : List Change) → end ≡ no_end → cs ≡ [] → IsEndOf end cs × IsSource cs
+empty_stands end cs l e = empty_is end cs l (sym e)
 
 -- a source with one change more is one
-pub more_stands : (lasts : List (Option Change)) (cs ds : List Change) (c : Change) → length lasts ≡ 256 → c.item < 256 → refusal cs c ≡ None
-    → AreLasts lasts cs × IsSource cs → ds ≡ cs ++ c ∷ [] → AreLasts (slice_set lasts c.item (Some c)) ds × IsSource ds
-more_stands lasts cs ds c long within free h e =
-    let P : List Change → Type 0 = λ n. AreLasts (slice_set lasts c.item (Some c)) n × IsSource n in
-    subst P (sym e) (lasts_more lasts cs c long within h.0, source_more cs c h.1 (allowed_after cs c free))
+pub more_stands : (end new : End) (cs ds : List Change) (c : Change) → c.item < 256 → refusal cs c ≡ None → IsEndOf end cs × IsSource cs
+    → new ≡ end_after end c → ds ≡ cs ++ c ∷ [] → IsEndOf new ds × IsSource ds
+more_stands end new cs ds c within free h n e =
+    let P : List Change → Type 0 = λ x. IsEndOf new x × IsSource x in
+    let Q : End → Type 0 = λ x. IsEndOf x (cs ++ c ∷ []) in
+    subst P (sym e) (subst Q (sym n) (end_more end cs c within h.0), source_more cs c h.1 (allowed_after cs c free))
 
 -- the changes of an item, where one of them stands between others
 pub of_item-between : (item : ℕ) (cs : List Change) (c : Change) (ds : List Change) → (c.item == item) ≡ true

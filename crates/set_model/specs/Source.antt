@@ -1,5 +1,5 @@
 -- The source of a set: what a list of changes must be, and when one more change is refused.
-use Rattle.std.specs.Prelude.{◌≡◌, ◌≢◌, ◌==◌, ℕ, ◌<◌, List, [], ◌∷◌, Option, Some, None, length, reverse, find, filter, replicate, if◌then◌else◌, nat_le, not, slice_index_or, ◌<ℤ◌, int_lt}
+use Rattle.std.specs.Prelude.{◌≡◌, ◌≢◌, ◌==◌, ℕ, ◌+◌, ◌<◌, List, [], ◌∷◌, Option, Some, None, length, reverse, find, filter, replicate, if◌then◌else◌, nat_le, not, slice_index_or, slice_set, ◌<ℤ◌, int_lt}
 use Rattle.std.specs.Ordering.{int_eq}
 use Rattle.set_model.specs.declared.source.Change.{Change}
 use Rattle.set_model.specs.declared.source.SourceFault.{SourceFault}
@@ -53,3 +53,32 @@ no_change = replicate 256 None
 -- the table has, at each item's number, the item's last change
 pub record AreLasts (lasts : List (Option Change)) (changes : List Change) : Type 0 where
   pub each : (item : ℕ) → item < 256 → slice_index_or lasts item None ≡ last_of item changes
+
+-- the end of a source: how many changes it has, and each item's last one
+pub record End : Type 0 where
+  pub count : ℕ
+  pub lasts : List (Option Change)
+
+-- before any change came
+abbrev pub no_end : End
+no_end = record { count = 0; lasts = no_change }
+
+-- one change more
+abbrev pub end_after : End → Change → End
+end_after end change = record { count = end.count + 1; lasts = slice_set end.lasts change.item (Some change) }
+
+-- the item's last change, if it has one
+abbrev pub last_at : ℕ → End → Option Change
+last_at item end = slice_index_or end.lasts item None
+
+-- why a change is refused at this end, if it is
+abbrev pub refusal_at : End → Change → Option SourceFault
+refusal_at end change =
+    if nat_le MOST_CHANGES end.count then Some Full
+    else refusal_after (last_at change.item end) change
+
+-- the end of these changes: how many they are, and a table with a place for each item, where its last change is
+pub record IsEndOf (end : End) (changes : List Change) : Type 0 where
+  pub count_is : end.count ≡ length changes
+  pub wide : length end.lasts ≡ 256
+  pub lasts_are : AreLasts end.lasts changes

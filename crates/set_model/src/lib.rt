@@ -9,4 +9,4 @@ mod tests;
 
 pub use line::{Arrived, GapCause, LogLine, Seen, UaRaw, write_line};
 pub use report::report_of;
-pub use source::{Change, MOST_CHANGES, SourceFault, SourceLog};
+pub use source::{Change, MOST_CHANGES, SourceEnd, SourceFault, SourceLog};

@@ -1,5 +1,5 @@
-ghost use Rattle.std.specs.Prelude.{◌≡◌, ◌≢◌, None, Some, [], ◌∷◌, ◌++◌, OnOk, OnErr, IfErr};
-ghost use Rattle.set_model.specs.Source.{last_of, refusal, refusal_after, IsSource, AreLasts, no_change};
+ghost use Rattle.std.specs.Prelude.{◌≡◌, ◌≢◌, ◌<◌, None, Some, [], ◌∷◌, ◌++◌, OnOk, OnErr, IfErr};
+ghost use Rattle.set_model.specs.Source.{end_after, last_at, last_of, no_change, no_end, refusal, refusal_after, refusal_at, IsSource};
 
 use std::alloc::{AllocFailed, Global};
 use std::marker::Model;
@@ -46,24 +46,20 @@ impl<T: Drop> From<AllocFailed<T>> for SourceFault {
     }
 }
 
-/// The one source of a set: all changes of all items in their order. For each item the times rise strictly, and each
-/// value differs from the one before.
+/// The end of a source: how many changes it has, and each item's last one. It judges the next change and keeps no
+/// other.
 #[derive(Debug, Drop)]
-pub struct SourceLog {
-    changes: Vec<Change>,
+pub struct SourceEnd {
+    count: usize,
     lasts: [Option<Change>; 256],
 }
 
-impl Model for SourceLog {
-    ghost use Rattle.std.specs.Prelude.{List};
-    ghost use Rattle.set_model.specs.declared.source.Change.{Change};
-    ghost use Rattle.set_model.specs.Source.{AreLasts, IsSource};
+impl Model for SourceEnd {
+    ghost use Rattle.set_model.specs.Source.{End};
 
-    ghost Value = { List Change };
+    ghost Value = { End };
 
-    ghost view = { λ s. s.changes.items };
-
-    ghost invariant = { λ s. AreLasts s.lasts s.changes.items × IsSource s.changes.items };
+    ghost view = { λ e. record { count = e.count; lasts = e.lasts } };
 }
 
 fn no_lasts() -> [Option<Change>; 256]
@@ -85,6 +81,65 @@ fn refusal_after(last: Option<Change>, change: Change) -> Option<SourceFault>
     }
 }
 
+impl SourceEnd {
+    /// The end of a source without a change. It takes no memory.
+    pub fn new() -> SourceEnd
+        ensures { result ≡ no_end }
+    {
+        SourceEnd {
+            count: 0,
+            lasts: no_lasts(),
+        }
+    }
+
+    /// The item's last change, if it has one.
+    pub fn last_of(&self, item: u8) -> Option<Change>
+        ensures { result ≡ last_at item self.now }
+    {
+        self.lasts[item as usize]
+    }
+
+    /// Why the source would refuse this change now.
+    pub fn refusal(&self, change: Change) -> Option<SourceFault>
+        ensures { result ≡ refusal_at self.now change }
+    {
+        if self.count >= MOST_CHANGES {
+            Some(SourceFault::Full)
+        } else {
+            refusal_after(self.last_of(change.item), change)
+        }
+    }
+
+    /// One change more. Whether the source would refuse it is not asked again.
+    pub fn add(&mut self, change: Change)
+        requires { self.old.count < MOST_CHANGES }
+        ensures { self.new ≡ end_after self.old change }
+    {
+        self.lasts[change.item as usize] = Some(change);
+        self.count += 1;
+    }
+}
+
+/// The one source of a set: all changes of all items in their order. For each item the times rise strictly, and each
+/// value differs from the one before.
+#[derive(Debug, Drop)]
+pub struct SourceLog {
+    changes: Vec<Change>,
+    end: SourceEnd,
+}
+
+impl Model for SourceLog {
+    ghost use Rattle.std.specs.Prelude.{List};
+    ghost use Rattle.set_model.specs.declared.source.Change.{Change};
+    ghost use Rattle.set_model.specs.Source.{IsEndOf, IsSource};
+
+    ghost Value = { List Change };
+
+    ghost view = { λ s. s.changes.items };
+
+    ghost invariant = { λ s. IsEndOf s.end s.changes.items × IsSource s.changes.items };
+}
+
 impl SourceLog {
     /// An empty source. It takes no memory.
     pub fn new(alloc: Global) -> SourceLog
@@ -92,7 +147,7 @@ impl SourceLog {
     {
         SourceLog {
             changes: Vec::new(alloc),
-            lasts: no_lasts(),
+            end: SourceEnd::new(),
         }
     }
 
@@ -101,7 +156,7 @@ impl SourceLog {
         ensures changes { result.now ≡ self.now }
         ensures source { IsSource self.now }
     {
-        let _ = &self.lasts;
+        let _ = &self.end;
         self.changes.as_slice()
     }
 
@@ -109,18 +164,14 @@ impl SourceLog {
     pub fn last_of(&self, item: u8) -> Option<Change>
         ensures { result ≡ last_of item self.now }
     {
-        self.lasts[item as usize]
+        self.end.last_of(item)
     }
 
     /// Why the source would refuse this change now.
     pub fn refusal(&self, change: Change) -> Option<SourceFault>
         ensures { result ≡ refusal self.now change }
     {
-        if self.changes.len() >= MOST_CHANGES {
-            Some(SourceFault::Full)
-        } else {
-            refusal_after(self.last_of(change.item), change)
-        }
+        self.end.refusal(change)
     }
 
     /// Appends a change, unless the source is full, the item's time does not rise or its value stays the same.
@@ -134,7 +185,7 @@ impl SourceLog {
             return Err(fault);
         }
         self.changes.push(change)?;
-        self.lasts[change.item as usize] = Some(change);
+        self.end.add(change);
         Ok(())
     }
 }
