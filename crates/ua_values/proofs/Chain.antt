@@ -4,7 +4,7 @@ use Rattle.std.proofs.lemmas.Bool.{cases_lt}
 use Rattle.std.proofs.Math.Seq.{take-append-add}
 use Rattle.std.proofs.lemmas.List.{append-nil, take-append-drop, length-append, length-take, take_at, drop_at, take_all, take-append-le}
 use Rattle.ua_values.specs.Reading.{Input, input, Reader, Fault, Short, Bad, passed, ◌>>=◌, give}
-use Rattle.ua_values.specs.Parts.{nothing, InTurn, ◌followed_by◌, Begun, IsRefused}
+use Rattle.ua_values.specs.Parts.{InTurn, Chained, Begun}
 use Rattle.ua_values.specs.Codec.{Took, Faulty, IsCodec}
 
 abbrev done : {A : Type 0} → A → Result A Fault
@@ -28,8 +28,8 @@ cut_by {A = A} S at codec a p x y ys spelled (Ok b) e =
     let first : at (input p (t.text ++ (t.rest ++ y ∷ ys))) ≡ Ok (b.0, input (p + length t.text) (t.rest ++ y ∷ ys)) = codec.again p t.text (t.rest ++ y ∷ ys) b.0 t.spelled in
     let second : at (input p ((x ++ y ∷ ys) ++ [])) ≡ Ok (a, input (p + length (x ++ y ∷ ys)) []) = codec.again p (x ++ y ∷ ys) [] a spelled in
     let joined : t.text ++ (t.rest ++ y ∷ ys) ≡ (x ++ y ∷ ys) ++ [] = sym (append_assoc t.text t.rest (y ∷ ys)) ∙ ap (λ (l : List ℕ). l ++ y ∷ ys) (sym t.whole) ∙ sym (append-nil (x ++ y ∷ ys)) in
-    let same : done (b.0, input (p + length t.text) (t.rest ++ y ∷ ys)) ≡ done (a, input (p + length (x ++ y ∷ ys)) []) = sym first ∙ ap (λ (l : List ℕ). at (input p l)) joined ∙ second in
-    let ends : t.rest ++ y ∷ ys ≡ [] = ap (λ (z : A × Input). z.1.rest) (ok_is _ _ same) in
+    let joins : done (b.0, input (p + length t.text) (t.rest ++ y ∷ ys)) ≡ done (a, input (p + length (x ++ y ∷ ys)) []) = sym first ∙ ap (λ (l : List ℕ). at (input p l)) joined ∙ second in
+    let ends : t.rest ++ y ∷ ys ≡ [] = ap (λ (z : A × Input). z.1.rest) (ok_is _ _ joins) in
     let long : length (t.rest ++ y ∷ ys) ≡ 0 = ap length ends in
     absurd (omega (arith, length-append t.rest (y ∷ ys)))
 cut_by S at codec a p x y ys spelled (Err Short) e = e
@@ -78,11 +78,6 @@ cut_front S at codec a p n text [] spelled is lt =
     absurd (omega (arith, long, length-append (take n text) [], length-take n text))
 cut_front S at codec a p n text (y ∷ ys) spelled is lt =
     is_cut S at codec a p (take n text) y ys (subst (λ (l : List ℕ). S a l) (sym (take-append-drop n text) ∙ ap (λ (l : List ℕ). take n text ++ l) is) spelled)
-
--- a value is found that the spelling of the whole begins with
-pub record Chained {A B : Type 0} (S : A → List ℕ → Type 0) (T : A → B → List ℕ → Type 0) (b : B) (bytes : List ℕ) : Type 0 where
-  pub value : A
-  pub parts : InTurn (S value) (T value b) bytes
 
 pub chained : {A B : Type 0} (S : A → List ℕ → Type 0) (T : A → B → List ℕ → Type 0) (a : A) (b : B) (x y : List ℕ) → S a x → T a b y → Chained S T b (x ++ y)
 chained S T a b x y first second = record { value = a; parts = record { front = x; back = y; first = first; second = second; whole = refl } }

@@ -1,1 +1,4 @@
 pub mod Chain
+pub mod Leaves
+pub mod Fields
+pub mod TypeCodecs

@@ -2,3 +2,4 @@ pub mod Reading
 pub mod Parts
 pub mod Codec
 pub mod Readers
+pub mod Types

@@ -25,6 +25,11 @@ infixr 20 ◌followed_by◌
 abbrev pub ◌followed_by◌ : (List ℕ → Type 0) → (List ℕ → Type 0) → List ℕ → Type 0
 (First followed_by Second) bytes = InTurn First Second bytes
 
+-- a choice is spelled, and then the value as this choice has it
+pub record Chained {A B : Type 0} (chooses : A → List ℕ → Type 0) (spells : A → B → List ℕ → Type 0) (b : B) (bytes : List ℕ) : Type 0 where
+  pub value : A
+  pub parts : InTurn (chooses value) (spells value b) bytes
+
 -- a field that a mask or a flag says is there; where it is not, the value is the blank one
 abbrev pub optional : {A : Type 0} → Bool → A → (A → List ℕ → Type 0) → A → List ℕ → Type 0
 optional true blank spells a bytes = spells a bytes
