@@ -2,3 +2,4 @@ pub mod Chain
 pub mod Leaves
 pub mod Fields
 pub mod TypeCodecs
+pub mod Answers

@@ -3,3 +3,4 @@ pub mod Parts
 pub mod Codec
 pub mod Readers
 pub mod Types
+pub mod Answer

@@ -64,6 +64,11 @@ abbrev pub Moves : {X Y : Type 0} → (X → Y) → Result X ValueFault → Inpu
 Moves view (Ok x) after read = read ≡ Ok (view x, after)
 Moves view (Err e) after read = Fails e read
 
+-- a value, and where the next one begins
+abbrev pub with_place : {A E : Type 0} → Result A E → ℕ → Result (A × ℕ) E
+with_place (Ok a) place = Ok (a, place)
+with_place (Err e) place = Err e
+
 -- the value, and how many bytes it took
 abbrev pub sized : {A : Type 0} → Result (A × Input) Fault → Result (A × ℕ) Fault
 sized (Ok x) = Ok (x.0, x.1.place)

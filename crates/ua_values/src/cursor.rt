@@ -1,6 +1,6 @@
 ghost use Rattle.std.specs.Prelude.{◌≡◌, None, option_map};
 ghost use Rattle.std.specs.Int.{w8, w16, w32, w64};
-ghost use Rattle.ua_values.specs.Reading.{input, Moves, run_at, field_at, number_at};
+ghost use Rattle.ua_values.specs.Reading.{input, with_place, Moves, run_at, field_at, number_at};
 ghost use Rattle.ua_values.specs.Readers.{boolean_at, signed_at, guid_at, length_of, text_at, form_of, form_body_at, node_at, head_of, optional_at, expanded_at, qualified_at, localized_at, kind_of, body_at, extension_at};
 ghost use Rattle.ua_values.specs.declared.fault.ValueFault.TheVariants as faults;
 
@@ -16,6 +16,7 @@ use ua_base::status::{BAD_DECODING_ERROR, BAD_ENCODING_LIMITS_EXCEEDED};
 use uuid::Uuid;
 
 /// Reads values one after the other. After a fault it stands anywhere, and is not read from again.
+#[derive(Drop)]
 pub struct Cursor<'a> {
     place: usize,
     rest: &'a [u8],
@@ -48,6 +49,16 @@ impl<'a> Cursor<'a> {
         ensures { result ≡ self.now.place }
     {
         self.place
+    }
+
+    /// A value that was read last, and how many bytes have been read.
+    pub fn sized<T: Drop>(&self, read: Result<T, ValueFault>) -> Result<(T, usize), ValueFault>
+        ensures { result ≡ with_place read self.now.place }
+    {
+        match read {
+            Ok(value) => Ok((value, self.place)),
+            Err(fault) => Err(fault),
+        }
     }
 
     /// The next bytes, so many.

@@ -6,6 +6,7 @@ mod extension;
 mod fault;
 mod names;
 mod node;
+mod reading;
 mod run;
 
 pub use cursor::Cursor;
@@ -13,4 +14,10 @@ pub use extension::{ExtensionBody, ExtensionObject};
 pub use fault::{MOST_BYTES, ValueFault};
 pub use names::{LocalizedText, QualifiedName};
 pub use node::{ExpandedNodeId, NodeId};
+pub use reading::{
+    read_boolean, read_byte, read_byte_string, read_date_time, read_double, read_expanded_node_id,
+    read_extension_object, read_float, read_guid, read_int16, read_int32, read_int64,
+    read_localized_text, read_node_id, read_qualified_name, read_sbyte, read_status_code,
+    read_string, read_uint16, read_uint32, read_uint64, read_xml_element,
+};
 pub use run::{UaBytes, UaText};
