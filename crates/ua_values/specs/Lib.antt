@@ -4,3 +4,4 @@ pub mod Codec
 pub mod Readers
 pub mod Types
 pub mod Answer
+pub mod Written

@@ -8,6 +8,7 @@ mod names;
 mod node;
 mod reading;
 mod run;
+mod writing;
 
 pub use cursor::Cursor;
 pub use extension::{ExtensionBody, ExtensionObject};
@@ -21,3 +22,11 @@ pub use reading::{
     read_string, read_uint16, read_uint32, read_uint64, read_xml_element,
 };
 pub use run::{UaBytes, UaText};
+pub use writing::{
+    put_expanded_node_id, put_extension_object, put_localized_text, put_node_id,
+    put_qualified_name, write_boolean, write_byte, write_byte_string, write_date_time,
+    write_double, write_expanded_node_id, write_extension_object, write_float, write_guid,
+    write_int16, write_int32, write_int64, write_localized_text, write_node_id,
+    write_qualified_name, write_sbyte, write_status_code, write_string, write_uint16, write_uint32,
+    write_uint64, write_xml_element,
+};

@@ -1,5 +1,7 @@
 ghost use Rattle.std.specs.Prelude.{◌≡◌, ◌<◌, ◌^◌};
 ghost use Rattle.ua_values.specs.Readers.{form_of, has_bit, head_of, MeansOrNot};
+ghost use Rattle.ua_values.specs.Types.{form_byte};
+ghost use Rattle.ua_values.specs.Written.{shortest_number, shortest};
 
 use crate::run::{UaBytes, UaText};
 use uuid::Uuid;
@@ -64,6 +66,47 @@ impl Form {
             4 => Some(Form::Guid),
             5 => Some(Form::Opaque),
             _ => None,
+        }
+    }
+}
+
+impl Form {
+    /// The shortest form of a number.
+    pub(crate) fn of_number(namespace: u16, id: u32) -> Form
+        ensures { result ≡ shortest_number namespace id }
+    {
+        if namespace == 0 && id < 1 << 8 {
+            Form::TwoByte
+        } else if namespace < 1 << 8 && id < 1 << 16 {
+            Form::FourByte
+        } else {
+            Form::Long
+        }
+    }
+
+    /// The shortest form that holds the node.
+    pub(crate) fn shortest(node: &NodeId) -> Form
+        ensures { result ≡ shortest node.now }
+    {
+        match node {
+            NodeId::Numeric { namespace, id } => Form::of_number(*namespace, *id),
+            NodeId::Text { .. } => Form::Text,
+            NodeId::Guid { .. } => Form::Guid,
+            NodeId::Opaque { .. } => Form::Opaque,
+        }
+    }
+
+    /// The byte that says the form.
+    pub(crate) fn byte(self) -> u8
+        ensures { result ≡ form_byte self }
+    {
+        match self {
+            Form::TwoByte => 0,
+            Form::FourByte => 1,
+            Form::Long => 2,
+            Form::Text => 3,
+            Form::Guid => 4,
+            Form::Opaque => 5,
         }
     }
 }

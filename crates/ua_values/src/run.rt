@@ -1,5 +1,5 @@
 ghost use Rattle.std.specs.Prelude.{◌≡◌, Some, None, option_map};
-ghost use Rattle.std.specs.Option.{option_copied};
+ghost use Rattle.std.specs.Option.{is_none, option_copied};
 
 use std::marker::Model;
 
@@ -62,6 +62,13 @@ impl UaText {
         }
     }
 
+    /// Whether it is null.
+    pub fn is_null(&self) -> bool
+        ensures { result ≡ is_none self.now }
+    {
+        self.run.is_none()
+    }
+
     /// The bytes, where it is not null.
     pub fn bytes(&self) -> Option<&[u8]>
         ensures { option_copied result ≡ self.now }
@@ -92,6 +99,13 @@ impl UaBytes {
         UaBytes {
             run: Some(Run { bytes }),
         }
+    }
+
+    /// Whether it is null.
+    pub fn is_null(&self) -> bool
+        ensures { result ≡ is_none self.now }
+    {
+        self.run.is_none()
     }
 
     /// The bytes, where it is not null.
