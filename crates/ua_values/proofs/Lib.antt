@@ -3,3 +3,4 @@ pub mod Leaves
 pub mod Fields
 pub mod TypeCodecs
 pub mod Answers
+pub mod WrittenLemmas

@@ -5,3 +5,4 @@ pub mod Readers
 pub mod Types
 pub mod Answer
 pub mod Written
+pub mod Laws

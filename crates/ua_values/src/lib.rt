@@ -4,6 +4,7 @@
 mod cursor;
 mod extension;
 mod fault;
+mod laws;
 mod names;
 mod node;
 mod reading;
@@ -13,6 +14,11 @@ mod writing;
 pub use cursor::Cursor;
 pub use extension::{ExtensionBody, ExtensionObject};
 pub use fault::{MOST_BYTES, ValueFault};
+pub use laws::{
+    booleans_are_lawful, expanded_node_ids_are_lawful, extension_objects_are_lawful,
+    guids_are_lawful, localized_texts_are_lawful, node_ids_are_lawful, numbers_are_lawful,
+    qualified_names_are_lawful, signed_numbers_are_lawful, texts_are_lawful,
+};
 pub use names::{LocalizedText, QualifiedName};
 pub use node::{ExpandedNodeId, NodeId};
 pub use reading::{
