@@ -9,6 +9,8 @@ mod names;
 mod node;
 mod reading;
 mod run;
+#[cfg(test)]
+mod tests;
 mod writing;
 
 pub use cursor::Cursor;
