@@ -21,6 +21,10 @@ Answer A = Result (A × Input) Fault
 
 -- ---- what one codec says of fronts
 
+not_empty : (a ys : List ℕ) (y : ℕ) → a ++ y ∷ ys ≡ [] → ⊥
+not_empty [] ys y e = absurd cc
+not_empty (x ∷ a) ys y e = absurd cc
+
 cut_by : {A : Type 0} (S : A → List ℕ → Type 0) (at : Reader A) → IsCodec S at → (a : A) (p : ℕ) (x : List ℕ) (y : ℕ) (ys : List ℕ) → S a (x ++ y ∷ ys)
     → (r : Answer A) → at (input p x) ≡ r → at (input p x) ≡ Err Short
 cut_by {A = A} S at codec a p x y ys spelled (Ok b) e =
@@ -30,8 +34,7 @@ cut_by {A = A} S at codec a p x y ys spelled (Ok b) e =
     let joined : t.text ++ (t.rest ++ y ∷ ys) ≡ (x ++ y ∷ ys) ++ [] = sym (append_assoc t.text t.rest (y ∷ ys)) ∙ ap (λ (l : List ℕ). l ++ y ∷ ys) (sym t.whole) ∙ sym (append-nil (x ++ y ∷ ys)) in
     let joins : done (b.0, input (p + length t.text) (t.rest ++ y ∷ ys)) ≡ done (a, input (p + length (x ++ y ∷ ys)) []) = sym first ∙ ap (λ (l : List ℕ). at (input p l)) joined ∙ second in
     let ends : t.rest ++ y ∷ ys ≡ [] = ap (λ (z : A × Input). z.1.rest) (ok_is _ _ joins) in
-    let long : length (t.rest ++ y ∷ ys) ≡ 0 = ap length ends in
-    absurd (omega (arith, length-append t.rest (y ∷ ys)))
+    absurd (not_empty t.rest ys y ends)
 cut_by S at codec a p x y ys spelled (Err Short) e = e
 cut_by S at codec a p x y ys spelled (Err (Bad q c)) e =
     let f = codec.faulty p x q c e in

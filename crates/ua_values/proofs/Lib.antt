@@ -4,3 +4,5 @@ pub mod Fields
 pub mod TypeCodecs
 pub mod Answers
 pub mod WrittenLemmas
+pub mod Arrays
+pub mod ArrayLoop

@@ -1,6 +1,7 @@
 -- What holds of each type's grammar, reader and written spelling.
 use Rattle.std.specs.Prelude.{◌≡◌, ◌<◌, ◌≤◌, ℕ, ◌+◌, ◌^◌, List, [], ◌++◌, length, Option, Some, None, Bool, Ok, IfSome}
-use Rattle.ua_values.specs.declared.fault.TheConstants.{MOST_BYTES}
+use Rattle.std.specs.List.{AllByRecursion}
+use Rattle.ua_values.specs.declared.fault.TheConstants.{MOST_BYTES, MOST_ITEMS}
 use Rattle.ua_values.specs.declared.node.NodeId.{NodeId}
 use Rattle.ua_values.specs.declared.node.NodeId.TheVariants as node
 use Rattle.ua_values.specs.declared.node.ExpandedNodeId.{ExpandedNodeId}
@@ -41,6 +42,10 @@ KeepsBody (extension.Xml run) = KeepsText run
 
 abbrev pub KeepsExtension : ExtensionObject → Type 0
 KeepsExtension x = KeepsNode x.type_id × KeepsBody x.body
+
+-- an array whose elements keep theirs
+abbrev pub KeepsArray : {A : Type 0} → (A → Type 0) → List A → Type 0
+KeepsArray keeps items = (length items ≤ MOST_ITEMS) × AllByRecursion keeps items
 
 -- ---- the laws
 

@@ -1,7 +1,7 @@
 -- The parts that spellings are made of. A spelling relates a value to bytes: a value may have several, bytes have one value at most.
-use Rattle.std.specs.Prelude.{◌≡◌, ◌≤◌, ◌<◌, ℕ, ◌^◌, ◌+◌, List, [], ◌++◌, length, take, Bool, true, false, Option, Some, None, ◌⊎◌}
+use Rattle.std.specs.Prelude.{◌≡◌, ◌≤◌, ◌<◌, ℕ, ◌^◌, ◌+◌, List, [], ◌∷◌, ◌++◌, length, take, Bool, true, false, Option, Some, None, ◌⊎◌}
 use Rattle.byteorder.specs.Endian.{little_number}
-use Rattle.ua_values.specs.declared.fault.TheConstants.{MOST_BYTES}
+use Rattle.ua_values.specs.declared.fault.TheConstants.{MOST_BYTES, MOST_ITEMS}
 
 -- a number as so many bytes, the lowest first
 abbrev pub number : ℕ → ℕ → List ℕ → Type 0
@@ -40,6 +40,17 @@ optional false blank spells a bytes = (a ≡ blank) × nothing bytes
 abbrev pub text : Option (List ℕ) → List ℕ → Type 0
 text None bytes = (n : ℕ) × (2 ^ 31 ≤ n) × number 4 n bytes
 text (Some run) bytes = (length run ≤ MOST_BYTES) × (number 4 (length run) followed_by exactly run) bytes
+
+-- elements one after the other
+abbrev pub elements : {A : Type 0} → (A → List ℕ → Type 0) → List A → List ℕ → Type 0
+elements spells [] bytes = nothing bytes
+elements spells (a ∷ more) bytes = (spells a followed_by elements spells more) bytes
+
+-- an empty array is any negative length too; else a length up to the limit, and so many elements
+abbrev pub array : {A : Type 0} → (A → List ℕ → Type 0) → List A → List ℕ → Type 0
+array spells items bytes =
+    ((items ≡ []) × (n : ℕ) × (2 ^ 31 ≤ n) × number 4 n bytes)
+    ⊎ ((length items ≤ MOST_ITEMS) × (number 4 (length items) followed_by elements spells items) bytes)
 
 -- which code a field of so many bytes may be refused with: a byte that chooses, or a length
 abbrev pub IsRefused : ℕ → ℕ → Type 0

@@ -1,8 +1,8 @@
 -- A reader for each type, field by field.
-use Rattle.std.specs.Prelude.{◌≡◌, ◌==◌, ℕ, ◌+◌, ◌/◌, ◌%◌, ◌^◌, ℤ, nat_lt, nat_le, not, List, Bool, true, false, Option, Some, None, Result, Ok, Err, if◌then◌else◌}
+use Rattle.std.specs.Prelude.{◌≡◌, ◌==◌, ℕ, zero, suc, ◌+◌, ◌/◌, ◌%◌, ◌^◌, ℤ, nat_lt, nat_le, not, List, [], ◌∷◌, Bool, true, false, Option, Some, None, Result, Ok, Err, if◌then◌else◌}
 use Rattle.std.specs.Int.{Width, w8, w16, w32, w64, cast_signed}
 use Rattle.uuid.specs.Parts.{swap_fields}
-use Rattle.ua_values.specs.declared.fault.TheConstants.{MOST_BYTES}
+use Rattle.ua_values.specs.declared.fault.TheConstants.{MOST_BYTES, MOST_ITEMS}
 use Rattle.ua_values.specs.declared.node.NodeId.{NodeId}
 use Rattle.ua_values.specs.declared.node.NodeId.TheVariants as node
 use Rattle.ua_values.specs.declared.node.Form.{Form}
@@ -51,6 +51,25 @@ abbrev pub text_at : Reader (Option (List ℕ))
 text_at = do
   n ← field_at 4 length_of
   run_of n
+
+-- negative is none, too many, or how many elements an array has
+abbrev pub count_of : ℕ → Result ℕ ℕ
+count_of n =
+    if nat_le (2 ^ 31) n then Ok 0
+    else if nat_lt MOST_ITEMS n then Err 0x80080000
+    else Ok n
+
+abbrev pub elements_at : {A : Type 0} → ℕ → Reader A → Reader (List A)
+elements_at zero at = give []
+elements_at (suc n) at = do
+  first ← at
+  more ← elements_at n at
+  give (first ∷ more)
+
+abbrev pub array_at : {A : Type 0} → Reader A → Reader (List A)
+array_at at = do
+  n ← field_at 4 count_of
+  elements_at n at
 
 abbrev pub form_of : ℕ → Result Form ℕ
 form_of byte =

@@ -1,5 +1,6 @@
 -- The spelling that is written, of a value's several ones. A length of a value that breaks the rules is written modulo 2 ^ 32.
 use Rattle.std.specs.Prelude.{◌≡◌, ◌==◌, ◌<◌, ◌≤◌, ℕ, ◌+◌, ◌-◌, ◌%◌, ◌^◌, ℤ, nat_lt, not, ◌&&◌, List, [], ◌∷◌, ◌++◌, length, Bool, true, false, Option, Some, None, if◌then◌else◌, IfSome}
+use Rattle.std.specs.List.{flat_map}
 use Rattle.std.specs.Option.{is_some}
 use Rattle.std.specs.Int.{Width, cast_unsigned}
 use Rattle.byteorder.specs.Endian.{little_bytes}
@@ -29,6 +30,10 @@ written_guid g = swap_fields g
 abbrev pub written_text : Option (List ℕ) → List ℕ
 written_text None = little_bytes 4 (2 ^ 32 - 1)
 written_text (Some run) = little_bytes 4 (length run % 2 ^ 32) ++ run
+
+-- an empty array has the length 0
+abbrev pub written_array : {A : Type 0} → (A → List ℕ) → List A → List ℕ
+written_array written items = little_bytes 4 (length items % 2 ^ 32) ++ flat_map written items
 
 -- the shortest form that holds the value
 abbrev pub shortest_number : ℕ → ℕ → Form

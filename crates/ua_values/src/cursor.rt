@@ -1,11 +1,11 @@
 ghost use Rattle.std.specs.Prelude.{◌≡◌, None, option_map};
 ghost use Rattle.std.specs.Int.{w8, w16, w32, w64};
 ghost use Rattle.ua_values.specs.Reading.{input, with_place, Moves, run_at, field_at, number_at};
-ghost use Rattle.ua_values.specs.Readers.{boolean_at, signed_at, guid_at, length_of, text_at, form_of, form_body_at, node_at, head_of, optional_at, expanded_at, qualified_at, localized_at, kind_of, body_at, extension_at};
+ghost use Rattle.ua_values.specs.Readers.{boolean_at, signed_at, guid_at, length_of, count_of, text_at, form_of, form_body_at, node_at, head_of, optional_at, expanded_at, qualified_at, localized_at, kind_of, body_at, extension_at};
 ghost use Rattle.ua_values.specs.declared.fault.ValueFault.TheVariants as faults;
 
 use crate::extension::{BodyKind, ExtensionBody, ExtensionObject};
-use crate::fault::{MOST_BYTES, ValueFault};
+use crate::fault::{MOST_BYTES, MOST_ITEMS, ValueFault};
 use crate::names::{LocalizedText, QualifiedName};
 use crate::node::{ExpandedNodeId, Form, Head, NodeId, has_bit};
 use crate::run::{UaBytes, UaText};
@@ -166,6 +166,24 @@ impl<'a> Cursor<'a> {
         }
     }
 
+    /// How many elements an array has.
+    pub(crate) fn count(&mut self) -> Result<u32, ValueFault>
+        ensures { Moves (λ n. n) result self.new (field_at 4 count_of self.old) }
+    {
+        let place = self.place;
+        let count = self.uint32()?;
+        if count >= 1 << 31 {
+            Ok(0)
+        } else if count > MOST_ITEMS {
+            Err(ValueFault::Bad {
+                place,
+                code: BAD_ENCODING_LIMITS_EXCEEDED,
+            })
+        } else {
+            Ok(count)
+        }
+    }
+
     /// The bytes of a text or a ByteString.
     fn counted(&mut self, alloc: Global) -> Result<Option<Vec<u8>>, ValueFault>
         ensures { Moves (λ run. option_map (λ v. v.items) run) result self.new (text_at self.old) }
@@ -174,7 +192,7 @@ impl<'a> Cursor<'a> {
             None => Ok(None),
             Some(length) => {
                 let run = self.run(length)?;
-                let bytes = Vec::from_slice(alloc, run).map_err(|_| ValueFault::OutOfMemory)?;
+                let bytes = Vec::from_slice(alloc, run)?;
                 Ok(Some(bytes))
             }
         }

@@ -3,12 +3,12 @@
 ghost use Rattle.std.specs.Prelude.{◌<◌, ◌^◌, ℕ, FitsSigned};
 ghost use Rattle.std.specs.Int.{w8, w16, w32, w64};
 ghost use Rattle.byteorder.specs.Endian.{little_bytes};
-ghost use Rattle.ua_values.specs.Parts.{number, text};
+ghost use Rattle.ua_values.specs.Parts.{number, text, array};
 ghost use Rattle.ua_values.specs.Reading.{number_at};
-ghost use Rattle.ua_values.specs.Readers.{boolean_at, signed_at, guid_at, text_at, node_at, expanded_at, qualified_at, localized_at, extension_at};
+ghost use Rattle.ua_values.specs.Readers.{boolean_at, signed_at, guid_at, text_at, node_at, expanded_at, qualified_at, localized_at, extension_at, array_at};
 ghost use Rattle.ua_values.specs.Types.{boolean, signed, guid, node_id, expanded_node_id, qualified_name, localized_text, extension_object};
-ghost use Rattle.ua_values.specs.Written.{written_boolean, written_signed, written_guid, written_text, written_node, written_expanded, written_qualified, written_localized, written_extension};
-ghost use Rattle.ua_values.specs.Laws.{KeepsText, KeepsGuid, KeepsNode, KeepsExpanded, KeepsQualified, KeepsLocalized, KeepsExtension, IsLawful};
+ghost use Rattle.ua_values.specs.Written.{written_boolean, written_signed, written_guid, written_text, written_node, written_expanded, written_qualified, written_localized, written_extension, written_array};
+ghost use Rattle.ua_values.specs.Laws.{KeepsText, KeepsGuid, KeepsNode, KeepsExpanded, KeepsQualified, KeepsLocalized, KeepsExtension, KeepsArray, IsLawful};
 
 /// Numbers of any width: Byte, UInt16, UInt32, UInt64, Float, Double and StatusCode.
 pub fn numbers_are_lawful()
@@ -19,6 +19,12 @@ pub fn numbers_are_lawful()
 pub fn texts_are_lawful()
     ensures { IsLawful KeepsText text text_at written_text }
 {}
+
+/// An array of Strings: as every array, it is lawful since its elements are.
+pub fn text_arrays_are_lawful()
+    ensures { IsLawful (KeepsArray KeepsText) (array text) (array_at text_at) (written_array written_text) }
+{
+}
 
 /// A Boolean.
 pub fn booleans_are_lawful()
