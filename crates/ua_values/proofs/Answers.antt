@@ -1,13 +1,12 @@
 -- From a codec to what a read answers.
-use Rattle.std.proofs.Common.{◌≡◌, ℕ, ◌+◌, ◌≤◌, ◌<◌, List, [], ◌++◌, length, take, drop, Result, Ok, Err, refl, sym, ap, subst, ◌∙◌, arith, length-append}
-use Rattle.std.proofs.lemmas.List.{take-append-drop, take_at, append-nil}
+use Rattle.std.proofs.Common.{◌≡◌, ℕ, ◌+◌, ◌≤◌, List, [], ◌++◌, length, take, drop, Result, Ok, Err, refl, sym, ap, subst, ◌∙◌, arith, length-append}
+use Rattle.std.proofs.lemmas.List.{take-append-drop, append-nil}
 use Rattle.std.proofs.Math.Seq.{take-append_seam}
 use Rattle.ua_values.specs.declared.fault.ValueFault.{ValueFault}
 use Rattle.ua_values.specs.declared.fault.ValueFault.TheVariants as faults
-use Rattle.ua_values.specs.Reading.{Input, input, Reader, Fault, Short, Bad, Gives, Moves, Fails, with_place, sized}
-use Rattle.ua_values.specs.Parts.{Begun}
-use Rattle.ua_values.specs.Codec.{Took, Faulty, IsCodec}
-use Rattle.ua_values.specs.Answer.{HasNone, EndsEarly, IsFault, IsRead}
+use Rattle.ua_values.specs.Reading.{Input, input, Reader, Fault, Short, Bad, Gives, Moves, with_place, sized}
+use Rattle.ua_values.specs.Codec.{IsCodec}
+use Rattle.ua_values.specs.Answer.{HasNone, IsFault, IsRead}
 use Rattle.ua_values.proofs.Chain.{ok_is}
 
 abbrev Sized : Type 0 → Type 0

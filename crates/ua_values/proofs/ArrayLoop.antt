@@ -3,7 +3,7 @@ use Rattle.std.proofs.Common.{◌≡◌, ℕ, suc, ◌-◌, ◌+◌, ◌≤◌, 
 use Rattle.std.proofs.lemmas.List.{append-nil}
 use Rattle.ua_values.specs.declared.fault.ValueFault.{ValueFault}
 use Rattle.ua_values.specs.declared.fault.ValueFault.TheVariants as faults
-use Rattle.ua_values.specs.Reading.{Input, Reader, Fault, Fails, passed, ◌>>=◌, give}
+use Rattle.ua_values.specs.Reading.{Input, Reader, Fault, Fails, passed, give}
 use Rattle.ua_values.specs.Readers.{elements_at}
 
 -- what was read before, and what is still read

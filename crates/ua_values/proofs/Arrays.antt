@@ -1,10 +1,10 @@
 -- An array's reader reads its grammar, whatever its elements are.
-use Rattle.std.proofs.Common.{◌≡◌, ℕ, zero, suc, ◌+◌, ◌-◌, ◌*◌, ◌^◌, ◌≤◌, ◌<◌, Bool, true, false, cond, ltb, leb, List, [], ◌∷◌, ◌++◌, length, Result, Ok, Err, refl, sym, ap, subst, ◌∙◌, append_assoc, arith, inl, inr, ◌⊎◌}
+use Rattle.std.proofs.Common.{◌≡◌, ℕ, zero, suc, ◌^◌, ◌≤◌, ◌<◌, Bool, true, false, cond, ltb, leb, List, [], ◌∷◌, ◌++◌, length, Result, Ok, Err, refl, sym, ap, subst, ◌∙◌, arith, inl, inr, ◌⊎◌}
 use Rattle.std.proofs.lemmas.Bool.Decides.{nat_tests}
-use Rattle.std.proofs.lemmas.List.{append-nil, nil_from_length}
+use Rattle.std.proofs.lemmas.List.{append-nil}
 use Rattle.byteorder.specs.Endian.{little_number}
-use Rattle.ua_values.specs.Reading.{Input, input, Reader, ◌>>=◌, give, field_at}
-use Rattle.ua_values.specs.Parts.{number, nothing, InTurn, ◌followed_by◌, Chained, elements, array, IsRefused}
+use Rattle.ua_values.specs.Reading.{Reader, give, field_at}
+use Rattle.ua_values.specs.Parts.{number, Chained, elements, array, IsRefused}
 use Rattle.ua_values.specs.Codec.{IsCodec}
 use Rattle.ua_values.specs.Readers.{count_of, elements_at, array_at}
 use Rattle.ua_values.proofs.Chain.{same, chain}
@@ -30,7 +30,7 @@ pub elements_codec : {A : Type 0} (S : A → List ℕ → Type 0) (at : Reader A
 elements_codec {A = A} S at zero codec = same (given []) (Elements S 0) (give []) (λ items bytes g. subst (λ (l : List A). Elements S 0 l bytes) (sym g.0) (refl, g.1)) (none_from S) (give_codec [])
 elements_codec S at (suc n) codec =
     same (MadeOf S (Elements S n) ◌∷◌) (Elements S (suc n)) (elements_at (suc n) at) (some_to S n) (some_from S n)
-        (made_of S at (Elements S n) (elements_at n at) ◌∷◌ codec (elements_codec S at n codec))
+    (made_of S at (Elements S n) (elements_at n at) ◌∷◌ codec (elements_codec S at n codec))
 
 -- ---- the length
 

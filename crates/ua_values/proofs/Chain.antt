@@ -1,10 +1,10 @@
 -- Codecs one after the other.
-use Rattle.std.proofs.Common.{◌≡◌, ℕ, zero, suc, ◌+◌, ◌-◌, ◌≤◌, ◌<◌, Bool, true, false, cond, ltb, List, [], ◌∷◌, ◌++◌, length, take, drop, Result, Ok, Err, refl, sym, ap, subst, ◌∙◌, append_assoc, arith, inl, inr}
+use Rattle.std.proofs.Common.{◌≡◌, ℕ, ◌+◌, ◌-◌, ◌<◌, List, [], ◌∷◌, ◌++◌, length, take, drop, Result, Ok, Err, refl, sym, ap, subst, ◌∙◌, append_assoc, arith, inl, inr}
 use Rattle.std.proofs.lemmas.Bool.{cases_lt}
 use Rattle.std.proofs.Math.Seq.{take-append-add}
-use Rattle.std.proofs.lemmas.List.{append-nil, take-append-drop, length-append, length-take, take_at, drop_at, take_all, take-append-le}
-use Rattle.ua_values.specs.Reading.{Input, input, Reader, Fault, Short, Bad, passed, ◌>>=◌, give}
-use Rattle.ua_values.specs.Parts.{InTurn, Chained, Begun}
+use Rattle.std.proofs.lemmas.List.{append-nil, take-append-drop, length-append, length-take, take-append-le}
+use Rattle.ua_values.specs.Reading.{Input, input, Reader, Fault, Short, Bad, passed, ◌>>=◌}
+use Rattle.ua_values.specs.Parts.{Chained, Begun}
 use Rattle.ua_values.specs.Codec.{Took, Faulty, IsCodec}
 
 abbrev done : {A : Type 0} → A → Result A Fault

@@ -1,8 +1,8 @@
 -- Codecs of structures: their fields in turn.
-use Rattle.std.proofs.Common.{◌≡◌, ℕ, Bool, true, false, List, [], ◌∷◌, ◌++◌, length, refl, sym, ap, subst, ◌∙◌, append_assoc, arith}
+use Rattle.std.proofs.Common.{◌≡◌, ℕ, Bool, true, false, List, [], ◌++◌, refl, sym, ap, subst, ◌∙◌}
 use Rattle.std.proofs.lemmas.List.{append-nil}
-use Rattle.ua_values.specs.Reading.{Input, input, Reader, ◌>>=◌, give}
-use Rattle.ua_values.specs.Parts.{nothing, optional, InTurn, ◌followed_by◌, Chained}
+use Rattle.ua_values.specs.Reading.{Reader, ◌>>=◌, give}
+use Rattle.ua_values.specs.Parts.{optional, ◌followed_by◌, Chained}
 use Rattle.ua_values.specs.Codec.{IsCodec}
 use Rattle.ua_values.specs.Readers.{optional_at}
 use Rattle.ua_values.proofs.Chain.{same, chain}

@@ -1,13 +1,12 @@
 -- Codecs of a value's single fields.
-use Rattle.std.proofs.Common.{◌≡◌, ℕ, zero, suc, ◌+◌, ◌-◌, ◌*◌, ◌^◌, ◌≤◌, ◌<◌, Bool, true, false, cond, ltb, List, [], ◌∷◌, ◌++◌, length, take, drop, replicate, Result, Ok, Err, refl, sym, ap, subst, ◌∙◌, append_assoc, arith, inl, inr}
+use Rattle.std.proofs.Common.{◌≡◌, ℕ, zero, ◌+◌, ◌-◌, ◌≤◌, ◌<◌, List, [], ◌++◌, length, take, drop, replicate, Result, Ok, Err, refl, sym, ap, subst, ◌∙◌, arith, inl, inr}
 use Rattle.std.proofs.lemmas.Bool.{cases_lt, lt-ltb, le-ltb}
-use Rattle.std.proofs.lemmas.List.{append-nil, take-append-drop, length-append, length-take, length-replicate, take_at, drop_at, take_all, take-append-le}
+use Rattle.std.proofs.lemmas.List.{take-append-drop, length-append, length-take, length-replicate, take_at, drop_at}
 use Rattle.byteorder.specs.Endian.{little_number}
-use Rattle.ua_values.specs.Reading.{Input, input, Reader, Fault, Short, Bad, passed, ◌>>=◌, give, run_at, judged, field_at, any, number_at}
-use Rattle.ua_values.specs.Parts.{number, exactly, nothing, optional, InTurn, ◌followed_by◌, Begun, IsRefused}
+use Rattle.ua_values.specs.Reading.{Input, input, Fault, Short, Bad, give, run_at, judged, field_at, any, number_at}
+use Rattle.ua_values.specs.Parts.{number, exactly, nothing, Begun, IsRefused}
 use Rattle.ua_values.specs.Codec.{Took, Faulty, IsCodec}
-use Rattle.ua_values.specs.Readers.{optional_at}
-use Rattle.ua_values.proofs.Chain.{ok_is, same, chain}
+use Rattle.ua_values.proofs.Chain.{ok_is, same}
 
 no_ok : {A : Type 0} (f : Fault) (x : A) → ◌≡◌ {A = Result A Fault} (Ok x) (Err f) → ⊥
 no_ok f x e = cc

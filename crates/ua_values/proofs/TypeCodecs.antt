@@ -1,12 +1,11 @@
 -- Each type's reader reads its grammar.
-use Rattle.std.proofs.Common.{◌≡◌, ℕ, zero, suc, ◌+◌, ◌-◌, ◌*◌, ◌%◌, ◌^◌, ◌≤◌, ◌<◌, ℤ, Bool, true, false, not, cond, ltb, leb, eqb, List, [], ◌∷◌, ◌++◌, length, replicate, Option, Some, None, Result, Ok, Err, refl, sym, ap, subst, ◌∙◌, arith, inl, inr}
+use Rattle.std.proofs.Common.{◌≡◌, ℕ, zero, suc, ◌%◌, ◌^◌, ◌≤◌, ◌<◌, Bool, true, false, not, cond, ltb, leb, eqb, List, [], ◌∷◌, ◌++◌, length, Option, Some, None, Result, Ok, Err, refl, sym, ap, subst, ◌∙◌, arith, inl, inr}
 use Rattle.std.specs.Int.{Width, cast_signed}
 use Rattle.std.proofs.lemmas.Bool.{eqb-true}
 use Rattle.std.proofs.lemmas.Bool.Decides.{nat_tests}
 use Rattle.std.proofs.lemmas.List.{append-nil}
 use Rattle.byteorder.specs.Endian.{little_number}
 use Rattle.uuid.specs.Parts.{swap_fields}
-use Rattle.ua_values.specs.declared.node.NodeId.{NodeId}
 use Rattle.ua_values.specs.declared.node.NodeId.TheVariants as node
 use Rattle.ua_values.specs.declared.node.Form.{Form}
 use Rattle.ua_values.specs.declared.node.Form.TheVariants as form
@@ -15,18 +14,17 @@ use Rattle.ua_values.specs.declared.node.ExpandedNodeId.{ExpandedNodeId}
 use Rattle.ua_values.specs.declared.names.QualifiedName.{QualifiedName}
 use Rattle.ua_values.specs.declared.names.LocalizedText.{LocalizedText}
 use Rattle.ua_values.specs.declared.extension.ExtensionObject.{ExtensionObject}
-use Rattle.ua_values.specs.declared.extension.ExtensionBody.{ExtensionBody}
 use Rattle.ua_values.specs.declared.extension.ExtensionBody.TheVariants as extension
 use Rattle.ua_values.specs.declared.extension.BodyKind.{BodyKind}
 use Rattle.ua_values.specs.declared.extension.BodyKind.TheVariants as kind
-use Rattle.ua_values.specs.Reading.{Input, input, Reader, ◌>>=◌, give, run_at, field_at, number_at}
-use Rattle.ua_values.specs.Parts.{number, exactly, nothing, optional, InTurn, ◌followed_by◌, Chained, text, IsRefused}
+use Rattle.ua_values.specs.Reading.{◌>>=◌, give, run_at, field_at, number_at}
+use Rattle.ua_values.specs.Parts.{number, optional, ◌followed_by◌, Chained, text, IsRefused}
 use Rattle.ua_values.specs.Codec.{IsCodec}
 use Rattle.ua_values.specs.Readers.{boolean_at, signed_at, guid_at, length_of, run_of, text_at, form_of, form_body_at, node_at, has_bit, with_flags, head_of, optional_at, expanded_at, qualified_at, localized_at, kind_of, kind_body_at, body_at, extension_at}
 use Rattle.ua_values.specs.Types.{boolean, signed, guid, form_byte, form_body, node_id, head_byte, head_body, expanded_node_id, qualified_name, mask_body, localized_text, kind_byte, kind_body, extension_body, extension_object}
 use Rattle.ua_values.proofs.Chain.{same, chain}
 use Rattle.ua_values.proofs.Leaves.{given, give_codec, run, run_codec, field, Completed, IsField, field_codec, number_codec}
-use Rattle.ua_values.proofs.Fields.{Mapped, mapped, MadeOf, made_of, optional_codec, goes_on, begins, ends}
+use Rattle.ua_values.proofs.Fields.{Mapped, mapped, made_of, optional_codec, goes_on, begins, ends}
 
 pub byte_codec : IsCodec (number 1) (number_at 1)
 byte_codec = number_codec 1 (omega arith)

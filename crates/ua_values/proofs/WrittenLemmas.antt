@@ -1,9 +1,9 @@
 -- Written spellings are spellings.
-use Rattle.std.proofs.Common.{◌≡◌, ℕ, zero, suc, ◌+◌, ◌-◌, ◌*◌, ◌/◌, ◌%◌, ◌^◌, ◌≤◌, ◌<◌, ℤ, Bool, true, false, not, ◌&&◌, cond, ltb, leb, eqb, List, [], ◌∷◌, ◌++◌, length, Option, Some, None, Result, Ok, Err, refl, sym, ap, subst, ◌∙◌, append_assoc, arith, inl, inr, FitsSigned}
+use Rattle.std.proofs.Common.{◌≡◌, ℕ, ◌+◌, ◌-◌, ◌/◌, ◌%◌, ◌^◌, ◌<◌, ℤ, Bool, true, false, not, ◌&&◌, cond, ltb, eqb, List, [], ◌∷◌, ◌++◌, length, Option, Some, None, Ok, refl, sym, ap, subst, ◌∙◌, append_assoc, arith, inr, FitsSigned}
 use Rattle.std.specs.List.{flat_map, AllByRecursion}
 use Rattle.std.proofs.lemmas.List.Concat.{flat_map-cons}
 use Rattle.std.specs.Option.{is_some}
-use Rattle.std.specs.Int.{Width, w8, w16, w32, w64, cast_signed, cast_unsigned}
+use Rattle.std.specs.Int.{Width, cast_unsigned}
 use mir.Val.{bits}
 use Rattle.std.proofs.lemmas.Bool.{eqb-true}
 use Rattle.std.proofs.lemmas.Bool.Decides.{nat_tests}
@@ -12,13 +12,11 @@ use Rattle.std.proofs.Math.Facts.{Fits-of_z, Fits-lt-pow}
 use Rattle.std.proofs.lemmas.List.{append-nil}
 use Rattle.byteorder.specs.Endian.{little_number, little_bytes}
 use Rattle.byteorder.specs.Numbers.{little_number-reads_back, length-bytes_low_first}
-use Rattle.uuid.specs.Parts.{swap_fields}
 use Rattle.uuid.proofs.RoundTrips.{swap_twice}
 use Rattle.ua_values.specs.declared.node.NodeId.{NodeId}
 use Rattle.ua_values.specs.declared.node.NodeId.TheVariants as node
 use Rattle.ua_values.specs.declared.node.Form.{Form}
 use Rattle.ua_values.specs.declared.node.Form.TheVariants as form
-use Rattle.ua_values.specs.declared.node.Head.{Head}
 use Rattle.ua_values.specs.declared.node.ExpandedNodeId.{ExpandedNodeId}
 use Rattle.ua_values.specs.declared.names.QualifiedName.{QualifiedName}
 use Rattle.ua_values.specs.declared.names.LocalizedText.{LocalizedText}
@@ -26,12 +24,12 @@ use Rattle.ua_values.specs.declared.extension.ExtensionObject.{ExtensionObject}
 use Rattle.ua_values.specs.declared.extension.ExtensionBody.{ExtensionBody}
 use Rattle.ua_values.specs.declared.extension.ExtensionBody.TheVariants as extension
 use Rattle.ua_values.specs.declared.extension.BodyKind.TheVariants as kind
-use Rattle.ua_values.specs.Reading.{Input, input, Reader, sized}
-use Rattle.ua_values.specs.Parts.{number, exactly, nothing, optional, InTurn, ◌followed_by◌, Chained, text, elements, array}
+use Rattle.ua_values.specs.Reading.{Reader, sized}
+use Rattle.ua_values.specs.Parts.{number, exactly, optional, ◌followed_by◌, text, elements, array}
 use Rattle.ua_values.specs.Codec.{IsCodec}
 use Rattle.ua_values.specs.Readers.{has_bit}
-use Rattle.ua_values.specs.Types.{boolean, signed, guid, form_byte, form_body, node_id, head_byte, head_body, expanded_node_id, qualified_name, mask_body, localized_text, kind_byte, kind_body, extension_body, extension_object}
-use Rattle.ua_values.specs.Written.{written_boolean, written_signed, written_guid, written_text, shortest_number, shortest, written_number, written_form, written_node, flag, unless_null, unless_zero, written_head, written_expanded, written_qualified, written_mask, written_localized, written_body, written_extension, written_array}
+use Rattle.ua_values.specs.Types.{boolean, signed, guid, form_byte, form_body, node_id, expanded_node_id, qualified_name, localized_text, extension_body, extension_object}
+use Rattle.ua_values.specs.Written.{written_boolean, written_signed, written_guid, written_text, shortest, written_number, written_form, written_node, flag, unless_null, unless_zero, written_head, written_expanded, written_qualified, written_localized, written_body, written_extension, written_array}
 use Rattle.ua_values.specs.Laws.{KeepsText, KeepsGuid, KeepsNode, KeepsExpanded, KeepsQualified, KeepsLocalized, KeepsBody, KeepsExtension, KeepsArray, IsLawful}
 use Rattle.ua_values.proofs.Chain.{is_apart}
 
@@ -197,11 +195,14 @@ elements_spelled : {A : Type 0} (keeps : A → Type 0) (spells : A → List ℕ 
 elements_spelled keeps spells written each [] kept = refl
 elements_spelled keeps spells written each (a ∷ more) kept =
     subst (λ (l : List ℕ). elements spells (a ∷ more) l) (sym (flat_map-cons written a more))
-        (in_turn (spells a) (elements spells more) (written a) (flat_map written more) (each a kept.0) (elements_spelled keeps spells written each more kept.1))
+    (in_turn (spells a) (elements spells more) (written a) (flat_map written more) (each a kept.0) (elements_spelled keeps spells written each more kept.1))
 
 pub array_spelled : {A : Type 0} (keeps : A → Type 0) (spells : A → List ℕ → Type 0) (written : A → List ℕ) → ((a : A) → keeps a → spells a (written a))
     → (items : List A) → KeepsArray keeps items → array spells items (written_array written items)
 array_spelled keeps spells written each items kept =
     let long : length items % 2 ^ 32 ≡ length items = omega arith in
-    inr (kept.0, in_turn (number 4 (length items)) (elements spells items) (little_bytes 4 (length items % 2 ^ 32)) (flat_map written items)
-        (subst (λ (n : ℕ). number 4 (length items) (little_bytes 4 n)) (sym long) (number4 (length items) (omega arith))) (elements_spelled keeps spells written each items kept.1))
+    inr (
+      kept.0,
+      in_turn (number 4 (length items)) (elements spells items) (little_bytes 4 (length items % 2 ^ 32)) (flat_map written items)
+          (subst (λ (n : ℕ). number 4 (length items) (little_bytes 4 n)) (sym long) (number4 (length items) (omega arith))) (elements_spelled keeps spells written each items kept.1),
+    )

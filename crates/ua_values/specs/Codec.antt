@@ -1,5 +1,5 @@
 -- A reader reads exactly the spellings of a type.
-use Rattle.std.specs.Prelude.{◌≡◌, ◌≤◌, ◌<◌, ℕ, ◌+◌, List, ◌++◌, length, take, Result, Ok, Err}
+use Rattle.std.specs.Prelude.{◌≡◌, ◌≤◌, ◌<◌, ℕ, ◌+◌, List, ◌++◌, length, take, Ok, Err}
 use Rattle.ua_values.specs.Reading.{Input, input, Reader, Short, Bad}
 use Rattle.ua_values.specs.Parts.{IsRefused, Begun}
 

@@ -1,5 +1,5 @@
 -- What holds of each type's grammar, reader and written spelling.
-use Rattle.std.specs.Prelude.{◌≡◌, ◌<◌, ◌≤◌, ℕ, ◌+◌, ◌^◌, List, [], ◌++◌, length, Option, Some, None, Bool, Ok, IfSome}
+use Rattle.std.specs.Prelude.{◌≡◌, ◌<◌, ◌≤◌, ℕ, ◌^◌, List, [], ◌++◌, length, Option, Ok, IfSome}
 use Rattle.std.specs.List.{AllByRecursion}
 use Rattle.ua_values.specs.declared.fault.TheConstants.{MOST_BYTES, MOST_ITEMS}
 use Rattle.ua_values.specs.declared.node.NodeId.{NodeId}
@@ -10,7 +10,7 @@ use Rattle.ua_values.specs.declared.names.LocalizedText.{LocalizedText}
 use Rattle.ua_values.specs.declared.extension.ExtensionObject.{ExtensionObject}
 use Rattle.ua_values.specs.declared.extension.ExtensionBody.{ExtensionBody}
 use Rattle.ua_values.specs.declared.extension.ExtensionBody.TheVariants as extension
-use Rattle.ua_values.specs.Reading.{Input, input, Reader, sized}
+use Rattle.ua_values.specs.Reading.{input, Reader, sized}
 
 -- ---- which values keep the rules on lengths, and have numbers that their types hold
 

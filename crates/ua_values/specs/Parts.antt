@@ -1,5 +1,5 @@
 -- The parts that spellings are made of. A spelling relates a value to bytes: a value may have several, bytes have one value at most.
-use Rattle.std.specs.Prelude.{◌≡◌, ◌≤◌, ◌<◌, ℕ, ◌^◌, ◌+◌, List, [], ◌∷◌, ◌++◌, length, take, Bool, true, false, Option, Some, None, ◌⊎◌}
+use Rattle.std.specs.Prelude.{◌≡◌, ◌≤◌, ℕ, ◌^◌, List, [], ◌∷◌, ◌++◌, length, Bool, true, false, Option, Some, None, ◌⊎◌}
 use Rattle.byteorder.specs.Endian.{little_number}
 use Rattle.ua_values.specs.declared.fault.TheConstants.{MOST_BYTES, MOST_ITEMS}
 

@@ -1,6 +1,6 @@
 -- A reader for each type, field by field.
-use Rattle.std.specs.Prelude.{◌≡◌, ◌==◌, ℕ, zero, suc, ◌+◌, ◌/◌, ◌%◌, ◌^◌, ℤ, nat_lt, nat_le, not, List, [], ◌∷◌, Bool, true, false, Option, Some, None, Result, Ok, Err, if◌then◌else◌}
-use Rattle.std.specs.Int.{Width, w8, w16, w32, w64, cast_signed}
+use Rattle.std.specs.Prelude.{◌≡◌, ◌==◌, ℕ, zero, suc, ◌/◌, ◌%◌, ◌^◌, ℤ, nat_lt, nat_le, not, List, [], ◌∷◌, Bool, true, false, Option, Some, None, Result, Ok, Err, if◌then◌else◌}
+use Rattle.std.specs.Int.{Width, cast_signed}
 use Rattle.uuid.specs.Parts.{swap_fields}
 use Rattle.ua_values.specs.declared.fault.TheConstants.{MOST_BYTES, MOST_ITEMS}
 use Rattle.ua_values.specs.declared.node.NodeId.{NodeId}
@@ -16,7 +16,7 @@ use Rattle.ua_values.specs.declared.extension.ExtensionBody.{ExtensionBody}
 use Rattle.ua_values.specs.declared.extension.ExtensionBody.TheVariants as extension
 use Rattle.ua_values.specs.declared.extension.BodyKind.{BodyKind}
 use Rattle.ua_values.specs.declared.extension.BodyKind.TheVariants as kind
-use Rattle.ua_values.specs.Reading.{Input, Reader, ◌>>=◌, give, run_at, field_at, number_at}
+use Rattle.ua_values.specs.Reading.{Reader, ◌>>=◌, give, run_at, field_at, number_at}
 
 abbrev pub boolean_at : Reader Bool
 boolean_at = do

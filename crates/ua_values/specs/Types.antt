@@ -1,5 +1,5 @@
 -- The grammar: which bytes are a spelling of a value of each built-in type (OPC 10000-6, 5.2.2).
-use Rattle.std.specs.Prelude.{◌≡◌, ◌<◌, ◌≤◌, ◌^◌, ◌%◌, ℕ, ℤ, List, [], length, Bool, true, false, Option, Some, None}
+use Rattle.std.specs.Prelude.{◌≡◌, ◌<◌, ◌%◌, ℕ, ℤ, List, length, Bool, true, false, Option, None}
 use Rattle.std.specs.Int.{Width, cast_signed}
 use Rattle.uuid.specs.Parts.{swap_fields}
 use Rattle.ua_values.specs.declared.node.NodeId.{NodeId}
@@ -15,7 +15,7 @@ use Rattle.ua_values.specs.declared.extension.ExtensionBody.{ExtensionBody}
 use Rattle.ua_values.specs.declared.extension.ExtensionBody.TheVariants as extension
 use Rattle.ua_values.specs.declared.extension.BodyKind.{BodyKind}
 use Rattle.ua_values.specs.declared.extension.BodyKind.TheVariants as kind
-use Rattle.ua_values.specs.Parts.{number, exactly, nothing, optional, ◌followed_by◌, Chained, text}
+use Rattle.ua_values.specs.Parts.{number, nothing, optional, ◌followed_by◌, Chained, text}
 use Rattle.ua_values.specs.Readers.{has_bit}
 
 -- 0 is false, every other byte is true

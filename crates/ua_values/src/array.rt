@@ -14,6 +14,7 @@ use ua_base::OutOfMemory;
 /// What an array may have as its elements.
 pub trait Element: Sized + Drop {
     ghost at: { Reader Self };
+
     ghost written: { Self → List ℕ };
 
     /// Reads one element.
@@ -27,6 +28,7 @@ pub trait Element: Sized + Drop {
 
 impl Element for UaText {
     ghost at = { text_at };
+
     ghost written = { written_text };
 
     fn read(alloc: Global, from: &mut Cursor<'_>) -> Result<UaText, ValueFault> {
@@ -39,7 +41,11 @@ impl Element for UaText {
 }
 
 /// So many elements.
-fn elements<T: Element>(alloc: Global, count: u32, from: &mut Cursor<'_>) -> Result<Vec<T>, ValueFault>
+fn elements<T: Element>(
+    alloc: Global,
+    count: u32,
+    from: &mut Cursor<'_>,
+) -> Result<Vec<T>, ValueFault>
     ensures { Moves (λ items. items.items) result from.new (elements_at count T.at from.old) }
 {
     let mut items = Vec::new(alloc);

@@ -23,8 +23,7 @@ pub fn texts_are_lawful()
 /// An array of Strings: as every array, it is lawful since its elements are.
 pub fn text_arrays_are_lawful()
     ensures { IsLawful (KeepsArray KeepsText) (array text) (array_at text_at) (written_array written_text) }
-{
-}
+{}
 
 /// A Boolean.
 pub fn booleans_are_lawful()

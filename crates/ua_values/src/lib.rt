@@ -14,14 +14,15 @@ mod run;
 mod tests;
 mod writing;
 
-pub use array::{put_array, read_array, Element};
+pub use array::{Element, put_array, read_array};
 pub use cursor::Cursor;
 pub use extension::{ExtensionBody, ExtensionObject};
 pub use fault::{MOST_BYTES, MOST_ITEMS, ValueFault};
 pub use laws::{
     booleans_are_lawful, expanded_node_ids_are_lawful, extension_objects_are_lawful,
     guids_are_lawful, localized_texts_are_lawful, node_ids_are_lawful, numbers_are_lawful,
-    qualified_names_are_lawful, signed_numbers_are_lawful, text_arrays_are_lawful, texts_are_lawful,
+    qualified_names_are_lawful, signed_numbers_are_lawful, text_arrays_are_lawful,
+    texts_are_lawful,
 };
 pub use names::{LocalizedText, QualifiedName};
 pub use node::{ExpandedNodeId, NodeId};

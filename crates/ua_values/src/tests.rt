@@ -1,3 +1,5 @@
+ghost use Rattle.std.specs.Prelude.{◌<◌};
+
 use crate::*;
 use std::alloc::Global;
 use std::process::Abort;
@@ -164,16 +166,17 @@ fn reads_and_writes(
     let mut bytes = bytes_of(rt, alloc, read)?;
     let size = bytes.len();
     bytes.push(0xAA)?;
-    let mut to = Vec::new(alloc);
-    to.push(0x55)?;
+    let mut to = bytes_of(rt, alloc, "55")?;
     assert_eq!(rt; copy(alloc, kind, &bytes, &mut to)?, size);
-    assert_eq!(rt; to[0], 0x55);
-    let want = bytes_of(rt, alloc, written)?;
-    assert_eq!(rt; &to[1..], want.as_slice());
+    let mut want = bytes_of(rt, alloc, "55")?;
+    want.extend_from_slice(&bytes_of(rt, alloc, written)?)?;
+    assert_eq!(rt; to.as_slice(), want.as_slice());
     Ok(())
 }
 
-fn digit(rt: &impl Abort, byte: u8) -> u8 {
+fn digit(rt: &impl Abort, byte: u8) -> u8
+    ensures { result < 16 }
+{
     match byte {
         b'0'..=b'9' => byte - b'0',
         b'a'..=b'f' => byte - b'a' + 10,
@@ -363,5 +366,30 @@ fn faults_are_told_at_their_places(rt: HostRuntime) -> Result<(), Fail> {
         );
     }
     assert_eq!(rt; fault(rt.alloc(), Type::ExpandedNodeId, &long), None);
+    Ok(())
+}
+
+#[test]
+fn arrays_are_read_and_written(rt: HostRuntime) -> Result<(), Fail> {
+    let bytes = bytes_of(&rt, rt.alloc(), "030000000100000061ffffffff00000000")?;
+    let mut from = Cursor::new(&bytes);
+    let texts: Vec<UaText> = read_array(rt.alloc(), &mut from)?;
+    assert_eq!(rt; from.place(), bytes.len());
+    assert_eq!(rt; texts.len(), 3);
+    let mut to = Vec::new(rt.alloc());
+    put_array(&texts, &mut to)?;
+    assert_eq!(rt; to.as_slice(), bytes.as_slice());
+    let many = bytes_of(&rt, rt.alloc(), "01000100")?;
+    let fault = read_array::<UaText>(rt.alloc(), &mut Cursor::new(&many)).err();
+    assert_eq!(rt;
+        fault,
+        Some(ValueFault::Bad {
+            place: 0,
+            code: 0x8008_0000
+        })
+    );
+    let none = bytes_of(&rt, rt.alloc(), "00000080")?;
+    let empty: Vec<UaText> = read_array(rt.alloc(), &mut Cursor::new(&none))?;
+    assert_eq!(rt; empty.len(), 0);
     Ok(())
 }

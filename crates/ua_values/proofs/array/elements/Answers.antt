@@ -1,7 +1,7 @@
 use Rattle.std.proofs.Common.{◌≡◌, ◌++◌, ◌∷◌, []}
 use Rattle.std.proofs.lemmas.Result.{err_from_is_err_and}
 use Rattle.ua_values.specs.Readers.{elements_at}
-use Rattle.ua_values.proofs.ArrayLoop.{goes_on, stops, is_done}
+use Rattle.ua_values.proofs.ArrayLoop.{goes_on, stops}
 use Rattle.ua_values.proofs.array.elements.Goals as goal
 
 pub returns-in_err-element : goal.returns-in_err-element

@@ -1,4 +1,4 @@
-use Rattle.std.proofs.Common.{ℕ, ◌<◌, ◌^◌}
+use Rattle.std.proofs.Common.{◌<◌, ◌^◌}
 use Rattle.byteorder.specs.Endian.{little_bytes}
 use Rattle.ua_values.specs.Parts.{number}
 use Rattle.ua_values.specs.Reading.{number_at}
