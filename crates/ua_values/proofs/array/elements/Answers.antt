@@ -1,0 +1,15 @@
+use Rattle.std.proofs.Common.{◌≡◌, ◌++◌, ◌∷◌, []}
+use Rattle.std.proofs.lemmas.Result.{err_from_is_err_and}
+use Rattle.ua_values.specs.Readers.{elements_at}
+use Rattle.ua_values.proofs.ArrayLoop.{goes_on, stops}
+use Rattle.ua_values.proofs.array.elements.Goals as goal
+
+pub returns-in_err-element : goal.returns-in_err-element
+returns-in_err-element g c =
+    let p = err_from_is_err_and c.from_residual.result c.from_residual.ensures.1 in
+    rw (p.1, p.2) (stops c.in_err-element.field-0.0 g.T.Element.at c.loop-i.items.items c.args.count c.loop-i._i c.loop-i.from (elements_at c.args.count g.T.Element.at c.args.from.now) c.loop-i-test.true c.in_err-element.ensures c.loop-i.invariant)
+
+pub loop-i-preserved : goal.loop-i-preserved
+loop-i-preserved g c =
+    let e : c.push.new.self.items ≡ c.loop-i.items.items ++ c.in_ok-element.element ∷ [] = c.in_ok-push.ensures.items in
+    rw e (goes_on g.T.Element.at c.loop-i.items.items c.args.count c.loop-i._i c.loop-i.from c.in_ok-element.element c.read.new.from (elements_at c.args.count g.T.Element.at c.args.from.now) c.loop-i-test.true c.in_ok-element.ensures c.loop-i.invariant)
