@@ -7,12 +7,15 @@ use std::{env, io};
 use ua_base::OutOfMemory;
 use ua_values::{
     ExpandedNodeId, ExtensionBody, ExtensionObject, LocalizedText, NodeId, QualifiedName, UaBytes,
-    UaText, ValueFault, read_boolean, read_byte, read_byte_string, read_double,
-    read_expanded_node_id, read_extension_object, read_guid, read_int64, read_localized_text,
-    read_node_id, read_qualified_name, read_string, read_uint16, read_uint32, write_boolean,
-    write_byte, write_byte_string, write_double, write_expanded_node_id, write_extension_object,
-    write_guid, write_int64, write_localized_text, write_node_id, write_qualified_name,
-    write_string, write_uint16, write_uint32,
+    UaText, ValueFault, read_boolean, read_byte, read_byte_string, read_date_time, read_double,
+    read_expanded_node_id, read_extension_object, read_float, read_guid, read_int16, read_int32,
+    read_int64, read_localized_text, read_node_id, read_qualified_name, read_sbyte,
+    read_status_code, read_string, read_uint16, read_uint32, read_uint64, read_xml_element,
+    write_boolean, write_byte, write_byte_string, write_date_time, write_double,
+    write_expanded_node_id, write_extension_object, write_float, write_guid, write_int16,
+    write_int32, write_int64, write_localized_text, write_node_id, write_qualified_name,
+    write_sbyte, write_status_code, write_string, write_uint16, write_uint32, write_uint64,
+    write_xml_element,
 };
 use uuid::Uuid;
 
@@ -160,6 +163,48 @@ fn measure_all(rt: &HostRuntime) -> io::Result<()> {
     )?;
     measure(
         rt,
+        "SByte",
+        |to: &mut Vec<u8>| write_sbyte(-7, to),
+        |from: &[u8]| size(read_sbyte(from)),
+    )?;
+    measure(
+        rt,
+        "Int16",
+        |to: &mut Vec<u8>| write_int16(-700, to),
+        |from: &[u8]| size(read_int16(from)),
+    )?;
+    measure(
+        rt,
+        "Int32",
+        |to: &mut Vec<u8>| write_int32(-70_000, to),
+        |from: &[u8]| size(read_int32(from)),
+    )?;
+    measure(
+        rt,
+        "UInt64",
+        |to: &mut Vec<u8>| write_uint64(70_000, to),
+        |from: &[u8]| size(read_uint64(from)),
+    )?;
+    measure(
+        rt,
+        "Float",
+        |to: &mut Vec<u8>| write_float(0x3fc0_0000, to),
+        |from: &[u8]| size(read_float(from)),
+    )?;
+    measure(
+        rt,
+        "DateTime",
+        |to: &mut Vec<u8>| write_date_time(132_000_000_000_000_000, to),
+        |from: &[u8]| size(read_date_time(from)),
+    )?;
+    measure(
+        rt,
+        "StatusCode",
+        |to: &mut Vec<u8>| write_status_code(0x8034_0000, to),
+        |from: &[u8]| size(read_status_code(from)),
+    )?;
+    measure(
+        rt,
         "Guid",
         |to: &mut Vec<u8>| write_guid(guid, to),
         |from: &[u8]| size(read_guid(from)),
@@ -169,6 +214,12 @@ fn measure_all(rt: &HostRuntime) -> io::Result<()> {
         "String",
         |to: &mut Vec<u8>| write_string(&text, to),
         |from: &[u8]| size(read_string(alloc, from)),
+    )?;
+    measure(
+        rt,
+        "XmlElement",
+        |to: &mut Vec<u8>| write_xml_element(&text, to),
+        |from: &[u8]| size(read_xml_element(alloc, from)),
     )?;
     measure(
         rt,
