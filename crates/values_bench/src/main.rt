@@ -36,18 +36,22 @@ fn fill<W: Fn(&mut Vec<u8>) -> Result<(), OutOfMemory>>(
     Ok(())
 }
 
-/// Reads values one after another, and answers how many bytes are left where none can be read.
-fn scan<R: Fn(&[u8]) -> Option<usize>>(read: &R, bytes: &[u8]) -> usize
+/// Reads values one after another: how many bytes are left where none can be read, and whether each value was right.
+fn scan<R: Fn(&[u8]) -> Option<(bool, usize)>>(read: &R, bytes: &[u8]) -> (usize, bool)
     requires { R.IsAlwaysCallable read.now }
 {
     let mut rest = bytes;
+    let mut right = true;
     for _ in 0..bytes.len() {
         match read(rest) {
-            Some(count) if count <= rest.len() => rest = rest.split_at(count).1,
-            _ => return rest.len(),
+            Some((same, count)) if count <= rest.len() => {
+                rest = rest.split_at(count).1;
+                right = right && same;
+            }
+            _ => return (rest.len(), right),
         }
     }
-    rest.len()
+    (rest.len(), right)
 }
 
 /// How many bytes went by in a microsecond.
@@ -55,16 +59,21 @@ fn rate(bytes: usize, nanoseconds: u128) -> u128 {
     bytes as u128 * 1000 / nanoseconds.max(1)
 }
 
-/// How many bytes a value took that was read.
-fn size<X: Drop>(read: Result<(X, usize), ValueFault>) -> Option<usize> {
+/// Whether a value that was read is right, and how many bytes it took.
+fn seen<X: Drop, T: Fn(&X) -> bool>(
+    read: Result<(X, usize), ValueFault>,
+    is_right: T,
+) -> Option<(bool, usize)>
+    requires { T.IsAlwaysCallable is_right }
+{
     match read {
-        Ok((_, count)) => Some(count),
+        Ok((value, count)) => Some((is_right(&value), count)),
         Err(_) => None,
     }
 }
 
 /// Writes and reads a mebibyte, and prints how fast.
-fn measure<W: Fn(&mut Vec<u8>) -> Result<(), OutOfMemory>, R: Fn(&[u8]) -> Option<usize>>(
+fn measure<W: Fn(&mut Vec<u8>) -> Result<(), OutOfMemory>, R: Fn(&[u8]) -> Option<(bool, usize)>>(
     rt: &HostRuntime,
     name: &str,
     write: W,
@@ -82,13 +91,13 @@ fn measure<W: Fn(&mut Vec<u8>) -> Result<(), OutOfMemory>, R: Fn(&[u8]) -> Optio
     let filled = fill(&write, &mut bytes, BYTES / one.len().max(1));
     let writing = rate(bytes.len(), start.elapsed(rt)?.as_nanos());
     let start = Instant::now(rt)?;
-    let left = scan(&read, bytes.as_slice());
+    let (left, right) = scan(&read, bytes.as_slice());
     let reading = rate(bytes.len(), start.elapsed(rt)?.as_nanos());
     let start = Instant::now(rt)?;
     let copied = Vec::from_slice(rt.alloc(), bytes.as_slice())?;
     let copying = rate(copied.len(), start.elapsed(rt)?.as_nanos());
-    if filled.is_err() || left != 0 {
-        return println!(rt; "{name}: {left} bytes were not read");
+    if filled.is_err() || left != 0 || !right {
+        return println!(rt; "{name}: not all was read as it was written");
     }
     println!(rt; "{name}: written {writing} MB/s, read {reading} MB/s, copied {copying} MB/s")
 }
@@ -129,133 +138,160 @@ fn measure_all(rt: &HostRuntime) -> io::Result<()> {
         rt,
         "Boolean",
         |to: &mut Vec<u8>| write_boolean(true, to),
-        |from: &[u8]| size(read_boolean(from)),
+        |from: &[u8]| seen(read_boolean(from), |value: &bool| *value),
     )?;
     measure(
         rt,
         "Byte",
         |to: &mut Vec<u8>| write_byte(200, to),
-        |from: &[u8]| size(read_byte(from)),
+        |from: &[u8]| seen(read_byte(from), |value: &u8| *value == 200),
     )?;
     measure(
         rt,
         "UInt16",
         |to: &mut Vec<u8>| write_uint16(50_000, to),
-        |from: &[u8]| size(read_uint16(from)),
+        |from: &[u8]| seen(read_uint16(from), |value: &u16| *value == 50_000),
     )?;
     measure(
         rt,
         "UInt32",
         |to: &mut Vec<u8>| write_uint32(70_000, to),
-        |from: &[u8]| size(read_uint32(from)),
+        |from: &[u8]| seen(read_uint32(from), |value: &u32| *value == 70_000),
     )?;
     measure(
         rt,
         "Int64",
         |to: &mut Vec<u8>| write_int64(-7, to),
-        |from: &[u8]| size(read_int64(from)),
+        |from: &[u8]| seen(read_int64(from), |value: &i64| *value == -7),
     )?;
     measure(
         rt,
         "Double",
         |to: &mut Vec<u8>| write_double(0x3ff8_0000_0000_0000, to),
-        |from: &[u8]| size(read_double(from)),
+        |from: &[u8]| seen(
+            read_double(from),
+            |value: &u64| *value == 0x3ff8_0000_0000_0000,
+        ),
     )?;
     measure(
         rt,
         "SByte",
         |to: &mut Vec<u8>| write_sbyte(-7, to),
-        |from: &[u8]| size(read_sbyte(from)),
+        |from: &[u8]| seen(read_sbyte(from), |value: &i8| *value == -7),
     )?;
     measure(
         rt,
         "Int16",
         |to: &mut Vec<u8>| write_int16(-700, to),
-        |from: &[u8]| size(read_int16(from)),
+        |from: &[u8]| seen(read_int16(from), |value: &i16| *value == -700),
     )?;
     measure(
         rt,
         "Int32",
         |to: &mut Vec<u8>| write_int32(-70_000, to),
-        |from: &[u8]| size(read_int32(from)),
+        |from: &[u8]| seen(read_int32(from), |value: &i32| *value == -70_000),
     )?;
     measure(
         rt,
         "UInt64",
         |to: &mut Vec<u8>| write_uint64(70_000, to),
-        |from: &[u8]| size(read_uint64(from)),
+        |from: &[u8]| seen(read_uint64(from), |value: &u64| *value == 70_000),
     )?;
     measure(
         rt,
         "Float",
         |to: &mut Vec<u8>| write_float(0x3fc0_0000, to),
-        |from: &[u8]| size(read_float(from)),
+        |from: &[u8]| seen(read_float(from), |value: &u32| *value == 0x3fc0_0000),
     )?;
     measure(
         rt,
         "DateTime",
         |to: &mut Vec<u8>| write_date_time(132_000_000_000_000_000, to),
-        |from: &[u8]| size(read_date_time(from)),
+        |from: &[u8]| seen(
+            read_date_time(from),
+            |value: &i64| *value == 132_000_000_000_000_000,
+        ),
     )?;
     measure(
         rt,
         "StatusCode",
         |to: &mut Vec<u8>| write_status_code(0x8034_0000, to),
-        |from: &[u8]| size(read_status_code(from)),
+        |from: &[u8]| seen(read_status_code(from), |value: &u32| *value == 0x8034_0000),
     )?;
     measure(
         rt,
         "Guid",
         |to: &mut Vec<u8>| write_guid(guid, to),
-        |from: &[u8]| size(read_guid(from)),
+        |from: &[u8]| seen(read_guid(from), |value: &Uuid| *value == guid),
     )?;
     measure(
         rt,
         "String",
         |to: &mut Vec<u8>| write_string(&text, to),
-        |from: &[u8]| size(read_string(alloc, from)),
+        |from: &[u8]| seen(read_string(alloc, from), |value: &UaText| !value.is_null()),
     )?;
     measure(
         rt,
         "XmlElement",
         |to: &mut Vec<u8>| write_xml_element(&text, to),
-        |from: &[u8]| size(read_xml_element(alloc, from)),
+        |from: &[u8]| seen(
+            read_xml_element(alloc, from),
+            |value: &UaText| !value.is_null(),
+        ),
     )?;
     measure(
         rt,
         "ByteString",
         |to: &mut Vec<u8>| write_byte_string(&bytes, to),
-        |from: &[u8]| size(read_byte_string(alloc, from)),
+        |from: &[u8]| seen(
+            read_byte_string(alloc, from),
+            |value: &UaBytes| !value.is_null(),
+        ),
     )?;
     measure(
         rt,
         "NodeId",
         |to: &mut Vec<u8>| write_node_id(&node, to),
-        |from: &[u8]| size(read_node_id(alloc, from)),
+        |from: &[u8]| seen(
+            read_node_id(alloc, from),
+            |value: &NodeId| matches!(value, NodeId::Numeric { id: 70_000, .. }),
+        ),
     )?;
     measure(
         rt,
         "ExpandedNodeId",
         |to: &mut Vec<u8>| write_expanded_node_id(&expanded, to),
-        |from: &[u8]| size(read_expanded_node_id(alloc, from)),
+        |from: &[u8]| seen(
+            read_expanded_node_id(alloc, from),
+            |value: &ExpandedNodeId| value.server == 3,
+        ),
     )?;
     measure(
         rt,
         "QualifiedName",
         |to: &mut Vec<u8>| write_qualified_name(&name, to),
-        |from: &[u8]| size(read_qualified_name(alloc, from)),
+        |from: &[u8]| seen(
+            read_qualified_name(alloc, from),
+            |value: &QualifiedName| value.namespace == 1,
+        ),
     )?;
     measure(
         rt,
         "LocalizedText",
         |to: &mut Vec<u8>| write_localized_text(&label, to),
-        |from: &[u8]| size(read_localized_text(alloc, from)),
+        |from: &[u8]| seen(
+            read_localized_text(alloc, from),
+            |value: &LocalizedText| !value.text.is_null(),
+        ),
     )?;
     measure(
         rt,
         "ExtensionObject",
         |to: &mut Vec<u8>| write_extension_object(&object, to),
-        |from: &[u8]| size(read_extension_object(alloc, from)),
+        |from: &[u8]| seen(
+            read_extension_object(alloc, from),
+            |value: &ExtensionObject| matches!(value.body, ExtensionBody::Binary(_)),
+        ),
     )
 }
 
