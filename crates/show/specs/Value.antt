@@ -42,3 +42,20 @@ IsFaultOf values.OutOfMemory size fault = fault ≡ faults.OutOfMemory
 -- one DataValue and nothing after it
 abbrev pub shown_value : List ℕ → Result (List ℕ) Refusal
 shown_value bytes = shown_of (length bytes) (sized (data_value_at 101 (input 0 bytes)))
+
+-- ---- the same in the words of the grammar
+
+-- the input ends inside a value
+abbrev pub IsCutOff : List ℕ → ℕ → ℕ → Type 0
+IsCutOff bytes place code = (place ≡ length bytes) × (code ≡ BAD_DECODING_ERROR) × EndsEarly (data_value 101) (data_value_cut 101) bytes
+
+-- the first `place` bytes are a value, and there are more
+abbrev pub IsLeftOver : List ℕ → ℕ → ℕ → Type 0
+IsLeftOver bytes place code = (place < length bytes) × (code ≡ BAD_DECODING_ERROR) × (d : Stamped Variant) × data_value 101 d (take place bytes)
+
+-- the whole input is one value, whose text this is; or why it is none
+abbrev pub IsShown : {X : Type 0} → (X → List ℕ) → List ℕ → Result X ShowFault → Type 0
+IsShown view bytes (Ok x) = (d : Stamped Variant) × data_value 101 d bytes × (view x ≡ value_text d)
+IsShown view bytes (Err (faults.Bad place code)) =
+    IsCutOff bytes place code ⊎ (IsLeftOver bytes place code ⊎ IsFault (data_value 101) (data_value_cut 101) bytes place code)
+IsShown view bytes (Err faults.OutOfMemory) = Unit {0}

@@ -3,12 +3,14 @@
 ghost use Rattle.std.specs.Prelude.{◌≡◌, ◌++◌, codes, length, Ok, OnOk, IfOk};
 ghost use Rattle.std.specs.Fmt.{decimal};
 ghost use Rattle.ua_base.specs.declared.status.TheConstants.{BAD_DECODING_ERROR};
+ghost use Rattle.ua_variants.specs.declared.variant.Variant.{Variant};
+ghost use Rattle.ua_variants.specs.declared.variant.Stamped.{Stamped};
 ghost use Rattle.ua_variants.specs.Kinds.{flat_number};
-ghost use Rattle.ua_variants.specs.Grammar.{count_of_array};
+ghost use Rattle.ua_variants.specs.Grammar.{count_of_array, data_value};
 ghost use Rattle.ua_variants.specs.Spelling.{flat_of, flat_of_array};
 ghost use Rattle.show.specs.declared.fault.ShowFault.TheVariants as faults;
 ghost use Rattle.show.specs.Text.{status_text, bytes_text, scalar_text, value_line, count_line, written_lines, array_lines, diagnostic_lines, variant_text, some_text, field_line, value_text};
-ghost use Rattle.show.specs.Value.{Shows, IsFaultOf, shown_of, shown_value};
+ghost use Rattle.show.specs.Value.{Shows, IsFaultOf, shown_of, shown_value, IsShown};
 
 use crate::fault::ShowFault;
 use crate::text::{
@@ -262,6 +264,16 @@ fn text_of_whole(
     Ok(text)
 }
 
+/// What `show_value` answers, by the reader and the printer alone.
+fn shown(alloc: Global, bytes: &[u8]) -> Result<Vec<u8>, ShowFault>
+    ensures { Shows (λ text. text.items) result (shown_value bytes.now) }
+{
+    match read_data_value(alloc, bytes) {
+        Ok((value, size)) => text_of_whole(alloc, &value, size, bytes.len()),
+        Err(fault) => Err(fault_of(fault, bytes.len())),
+    }
+}
+
 /// What `show value` prints of one DataValue (OPC 10000-6, 5.2.2.17) with nothing after it: for each field that is there
 /// a line `value TYPE TEXT`, `status XXXXXXXX`, `source N`, `sourcepico N`, `server N` or `serverpico N`, in this order.
 /// An array is `value TYPE[n]` and a line for each element. TYPE is the number of the built-in type (OPC 10000-6, 5.1.2).
@@ -271,9 +283,8 @@ fn text_of_whole(
 /// Input that ends early is a fault at its length, and bytes left over are one at the first of them.
 pub fn show_value(alloc: Global, bytes: &[u8]) -> Result<Vec<u8>, ShowFault>
     ensures exact { Shows (λ text. text.items) result (shown_value bytes.now) }
+    ensures spelled { IsShown (λ text. text.items) bytes.now result }
+    ensures complete { (d : Stamped Variant) → data_value 101 d bytes.now → Shows (λ text. text.items) result (Ok (value_text d)) }
 {
-    match read_data_value(alloc, bytes) {
-        Ok((value, size)) => text_of_whole(alloc, &value, size, bytes.len()),
-        Err(fault) => Err(fault_of(fault, bytes.len())),
-    }
+    shown(alloc, bytes)
 }
