@@ -1,0 +1,9 @@
+//! What the commands `show value` and `show stream` print.
+#![tactic(auto)]
+
+mod fault;
+mod text;
+mod value;
+
+pub use fault::ShowFault;
+pub use value::show_value;
