@@ -132,7 +132,11 @@ fn put_array_lines(items: &Array, to: &mut Vec<u8>) -> Result<(), OutOfMemory>
     put_array(items, to)
 }
 
-fn put_written_array<T: Element>(number: u8, items: &[T], to: &mut Vec<u8>) -> Result<(), OutOfMemory>
+fn put_written_array<T: Element>(
+    number: u8,
+    items: &[T],
+    to: &mut Vec<u8>,
+) -> Result<(), OutOfMemory>
     ensures { OnOk result (to.new.items ≡ to.old.items ++ (count_line number (length items.now) ++ written_lines T.written items.now)) }
 {
     put_count(number, items.len(), to)?;
@@ -196,7 +200,11 @@ fn put_status_field(status: Option<u32>, to: &mut Vec<u8>) -> Result<(), OutOfMe
 }
 
 /// The line of a field with a text of its own, where it is there.
-fn put_field<T: Plain + Copy>(name: &str, field: Option<T>, to: &mut Vec<u8>) -> Result<(), OutOfMemory>
+fn put_field<T: Plain + Copy>(
+    name: &str,
+    field: Option<T>,
+    to: &mut Vec<u8>,
+) -> Result<(), OutOfMemory>
     ensures { OnOk result (to.new.items ≡ to.old.items ++ field_line name.now T.text field) }
 {
     match field {
