@@ -96,7 +96,7 @@ impl Plain for Uuid {
     ghost text = { guid_text };
 
     fn plain(&self, alloc: Global) -> Result<String, AllocError> {
-        self.to_string(alloc)
+        self.hyphenated().to_string(alloc)
     }
 }
 
