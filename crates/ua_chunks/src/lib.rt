@@ -1,0 +1,10 @@
+//! Frames, chunks and messages of a connection (OPC 10000-6, 6.7 and 7.1), both ways.
+#![tactic(auto)]
+
+mod body;
+mod frame;
+mod framer;
+
+pub use body::Body;
+pub use frame::{Chunk, Frame, FrameFault, Kind, MOST_FRAME};
+pub use framer::Framer;
