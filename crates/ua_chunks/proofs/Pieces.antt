@@ -5,10 +5,10 @@ use Rattle.ua_chunks.specs.declared.frame.Frame.{Frame}
 use Rattle.ua_chunks.specs.declared.frame.Header.{Header}
 use Rattle.ua_chunks.specs.declared.frame.Stage.{Stage}
 use Rattle.ua_chunks.specs.declared.frame.Stage.TheVariants as stage
-use Rattle.ua_chunks.specs.Frames.{Split, fault_in, fault_of, frame_of, framed, header_of, moved, stage_of, unframed, with_first}
-use Rattle.ua_chunks.specs.Framing.{Awaits, Framing, IsSettled, IsSettledAt, after_feed, frames_of, held_of, holding, split_of, with_split}
-use Rattle.ua_chunks.proofs.Stages.{IsBroken, is_whole, whole_is, is_broken, broken_append, broken_is, whole_append, whole_fits, broken_fits}
-use Rattle.ua_chunks.proofs.Splits.{IsOpen, after_frames, cut, framed_open, framed_whole, joined}
+use Rattle.ua_chunks.specs.Frames.{BreaksRule, Split, fault_in, fault_of, frame_of, framed, header_of, moved, stage_of, unframed, with_first}
+use Rattle.ua_chunks.specs.Framing.{Awaits, Framing, IsSettled, IsSettledAt, after_feed, frames_of, held_of, holding, rest_of, split_of, with_split}
+use Rattle.ua_chunks.proofs.Stages.{short_is, is_whole, whole_is, is_broken, broken_append, broken_is, whole_append, whole_fits, broken_fits}
+use Rattle.ua_chunks.proofs.Splits.{IsOpen, cut, framed_open, framed_whole, joined}
 
 some_same : (n m : ℕ) → Some n ≡ Some m → n ≡ m
 some_same n m e = cc
@@ -18,18 +18,18 @@ broken_at (stage.Waits n) code e = absurd cc
 broken_at (stage.Breaks c) code e = ap (λ (n : ℕ). stage.Breaks n) (some_same c code e)
 broken_at (stage.Whole h) code e = absurd cc
 
-pub faulty_is : (rest : List ℕ) (code : ℕ) → fault_of rest ≡ Some code → IsBroken rest code
+pub faulty_is : (rest : List ℕ) (code : ℕ) → fault_of rest ≡ Some code → BreaksRule rest code
 faulty_is rest code e = broken_is rest code (broken_at (stage_of rest) code e)
 
-pub is_faulty : (rest : List ℕ) (code : ℕ) → IsBroken rest code → fault_of rest ≡ Some code
+pub is_faulty : (rest : List ℕ) (code : ℕ) → BreaksRule rest code → fault_of rest ≡ Some code
 is_faulty rest code b = ap fault_in (is_broken rest code b)
 
 -- a fault stays, whatever follows
-pub framed_broken : (place : ℕ) (bytes : List ℕ) (code : ℕ) → IsBroken bytes code → framed place bytes ≡ unframed place bytes
+pub framed_broken : (place : ℕ) (bytes : List ℕ) (code : ℕ) → BreaksRule bytes code → framed place bytes ≡ unframed place bytes
 framed_broken place bytes code b = framed_open place bytes (subst IsOpen (sym (is_broken bytes code b)) tt)
 
 -- the header alone is as faulty
-front_broken : (rest : List ℕ) (code : ℕ) → IsBroken rest code → IsBroken (take 8 rest) code
+pub front_broken : (rest : List ℕ) (code : ℕ) → BreaksRule rest code → BreaksRule (take 8 rest) code
 front_broken rest code b =
     let long = length-take 8 rest in
     let same : take 8 (take 8 rest) ≡ take 8 rest = take_all 8 (take 8 rest) (omega (arith, long)) in
@@ -55,7 +55,7 @@ cut_none f b s =
     ap (λ (n : ℕ). record { place = g.place; held = held; missed = n; failed = s.failed }) (missed_none s.missed (length g.rest) (length held) (length f.rest))
 
 -- of a faulty one the header
-held_broken : (place : ℕ) (rest b : List ℕ) (code : ℕ) (s : Framing) → IsBroken rest code → with_split (framed place (rest ++ b)) s ≡ holding (take 8 rest) (rest ++ b) place s
+held_broken : (place : ℕ) (rest b : List ℕ) (code : ℕ) (s : Framing) → BreaksRule rest code → with_split (framed place (rest ++ b)) s ≡ holding (take 8 rest) (rest ++ b) place s
 held_broken place rest b code s broken =
     let more = broken_append rest b code broken in
     ap (λ f. with_split f s) (framed_broken place (rest ++ b) code more)
@@ -65,7 +65,7 @@ held_broken place rest b code s broken =
 take_twice : (rest : List ℕ) → take 8 (take 8 rest) ≡ take 8 rest
 take_twice rest = let long = length-take 8 rest in take_all 8 (take 8 rest) (omega (arith, long))
 
-cut_some : (f : Split) (b : List ℕ) (s : Framing) (code : ℕ) → IsBroken f.rest code
+cut_some : (f : Split) (b : List ℕ) (s : Framing) (code : ℕ) → BreaksRule f.rest code
     → with_split (joined f b) s ≡ with_split (framed f.place (take 8 f.rest ++ b)) (holding (take 8 f.rest) f.rest f.place s)
 cut_some f b s code broken =
     let first = length-append f.rest b in
@@ -146,7 +146,7 @@ pub record Counts (bytes : List ℕ) (s : Framing) : Type 0 where
   pub state : after_feed bytes s ≡ record s { missed = (s.missed + length bytes) % 2 ^ 64 }
   pub frames : frames_of bytes s ≡ []
 
-counted : (bytes : List ℕ) (s : Framing) (code : ℕ) → IsBroken s.held code → length s.held ≡ 8 → Counts bytes s
+counted : (bytes : List ℕ) (s : Framing) (code : ℕ) → BreaksRule s.held code → length s.held ≡ 8 → Counts bytes s
 unfolding after_feed frames_of
 counted bytes s code broken eight =
     let all : take 8 s.held ≡ s.held = take_all 8 s.held (omega arith) in
@@ -226,3 +226,13 @@ ends front s h lt room e =
 
 pub none_missed : (s : Framing) → s.held ≡ [] → IsSettled s → s.missed ≡ 0
 none_missed s none is = subst (λ (held : List ℕ). IsSettledAt (stage_of held) s) none is.1
+
+-- ---- how much is held
+
+small_by : (st : Stage) (s : Framing) → stage_of s.held ≡ st → IsSettledAt st s → fault_in st ≡ None → rest_of s < 65536
+small_by (stage.Waits n) s e is none = let short = short_is s.held n e in omega (arith, short, is)
+small_by (stage.Breaks code) s e is none = absurd cc
+small_by (stage.Whole h) s e is none = absurd is
+
+pub small : (s : Framing) → IsSettled s → fault_of s.held ≡ None → rest_of s < 65536
+small s is none = small_by (stage_of s.held) s refl is.1 none

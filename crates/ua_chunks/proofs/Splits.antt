@@ -6,6 +6,7 @@ use Rattle.ua_chunks.specs.declared.frame.Header.{Header}
 use Rattle.ua_chunks.specs.declared.frame.Stage.{Stage}
 use Rattle.ua_chunks.specs.declared.frame.Stage.TheVariants as stage
 use Rattle.ua_chunks.specs.Frames.{Split, frame_of, framed, framed_by, framed_up_to, moved, stage_of, unframed, with_first}
+use Rattle.ua_chunks.specs.Streams.{after_frames}
 use Rattle.ua_chunks.proofs.Stages.{is_whole, size_is, stage_short, whole_append, whole_is, is_broken, broken_append, broken_is}
 
 -- the bytes begin with no whole frame
@@ -59,9 +60,6 @@ framed_whole place (b ∷ bytes) h is =
     ∙ ap (with_first (frame_of place h (b ∷ bytes))) (enough (length bytes) (length (drop h.size (b ∷ bytes))) (moved place h.size) (drop h.size (b ∷ bytes)) (omega (arith, size.least, long)) (omega arith))
 
 -- ---- two pieces
-
-abbrev pub after_frames : List Frame → Split → Split
-after_frames frames s = record s { frames = frames ++ s.frames }
 
 abbrev pub joined : Split → List ℕ → Split
 joined s more = after_frames s.frames (framed s.place (s.rest ++ more))

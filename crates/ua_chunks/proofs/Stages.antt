@@ -8,7 +8,7 @@ use Rattle.ua_chunks.specs.declared.frame.Header.{Header}
 use Rattle.ua_chunks.specs.declared.frame.Stage.{Stage}
 use Rattle.ua_chunks.specs.declared.frame.Stage.TheVariants as stage
 use Rattle.ua_chunks.specs.declared.frame.TheConstants.{MOST_FRAME}
-use Rattle.ua_chunks.specs.Frames.{header_of, judged_header, judged_stage, sized, stage_of, type_of}
+use Rattle.ua_chunks.specs.Frames.{BreaksRule, header_of, judged_header, judged_stage, sized, stage_of, type_of}
 
 whole_same : (g h : Header) → stage.Whole g ≡ stage.Whole h → g ≡ h
 whole_same g h e = cc
@@ -47,14 +47,10 @@ pub record IsWhole (bytes : List ℕ) (h : Header) : Type 0 where
   pub header : header_of (take 8 bytes) ≡ Ok h
   pub within : h.size ≤ length bytes
 
-pub record IsBroken (bytes : List ℕ) (code : ℕ) : Type 0 where
-  pub long : 8 ≤ length bytes
-  pub header : header_of (take 8 bytes) ≡ Err code
-
 pub is_whole : (bytes : List ℕ) (h : Header) → IsWhole bytes h → stage_of bytes ≡ stage.Whole h
 is_whole bytes h w = stage_long bytes w.long ∙ ap (judged_stage (length bytes)) w.header ∙ sized_whole (length bytes) h w.within
 
-pub is_broken : (bytes : List ℕ) (code : ℕ) → IsBroken bytes code → stage_of bytes ≡ stage.Breaks code
+pub is_broken : (bytes : List ℕ) (code : ℕ) → BreaksRule bytes code → stage_of bytes ≡ stage.Breaks code
 is_broken bytes code b = stage_long bytes b.long ∙ ap (judged_stage (length bytes)) b.header
 
 whole_by : (bytes : List ℕ) (h : Header) (r : Result Header ℕ) → 8 ≤ length bytes → header_of (take 8 bytes) ≡ r → judged_stage (length bytes) r ≡ stage.Whole h → IsWhole bytes h
@@ -72,14 +68,14 @@ whole_is bytes h e = elim (cases_lt (length bytes) 8) [
   | inr le ↦ whole_by bytes h _ le refl (sym (stage_long bytes le) ∙ e)
 ]
 
-broken_by : (bytes : List ℕ) (code : ℕ) (r : Result Header ℕ) → 8 ≤ length bytes → header_of (take 8 bytes) ≡ r → judged_stage (length bytes) r ≡ stage.Breaks code → IsBroken bytes code
+broken_by : (bytes : List ℕ) (code : ℕ) (r : Result Header ℕ) → 8 ≤ length bytes → header_of (take 8 bytes) ≡ r → judged_stage (length bytes) r ≡ stage.Breaks code → BreaksRule bytes code
 broken_by bytes code (Err c) long is e = record { long = long; header = is ∙ ap (λ (x : ℕ). Err x) (breaks_same c code e) }
 broken_by bytes code (Ok g) long is e = elim (cases_lt (length bytes) g.size) [
   | inl lt ↦ absurd (waits_breaks _ code (sym (sized_waits (length bytes) g lt) ∙ e))
   | inr le ↦ absurd (whole_breaks g code (sym (sized_whole (length bytes) g le) ∙ e))
 ]
 
-pub broken_is : (bytes : List ℕ) (code : ℕ) → stage_of bytes ≡ stage.Breaks code → IsBroken bytes code
+pub broken_is : (bytes : List ℕ) (code : ℕ) → stage_of bytes ≡ stage.Breaks code → BreaksRule bytes code
 broken_is bytes code e = elim (cases_lt (length bytes) 8) [
   | inl lt ↦ absurd (waits_breaks _ code (sym (stage_short bytes lt) ∙ e))
   | inr le ↦ broken_by bytes code _ le refl (sym (stage_long bytes le) ∙ e)
@@ -104,10 +100,10 @@ pub record IsSize (n : ℕ) : Type 0 where
   pub least : 8 ≤ n
   pub most : n ≤ 65536
 
-no_header : (code : ℕ) (h : Header) → ◌≡◌ {A = Result Header ℕ} (Err code) (Ok h) → ⊥
+pub no_header : (code : ℕ) (h : Header) → ◌≡◌ {A = Result Header ℕ} (Err code) (Ok h) → ⊥
 no_header code h e = cc
 
-same_header : (g h : Header) → ◌≡◌ {A = Result Header ℕ} (Ok g) (Ok h) → g ≡ h
+pub same_header : (g h : Header) → ◌≡◌ {A = Result Header ℕ} (Ok g) (Ok h) → g ≡ h
 same_header g h e = cc
 
 size_by : (o : Option Letters) (n : ℕ) (h : Header) → judged_header o n ≡ Ok h → IsSize h.size
@@ -138,7 +134,7 @@ whole_append a b h w =
     let long = length-append a b in
     record { long = omega (arith, w.long, long); header = head_append a b w.long ∙ w.header; within = omega (arith, w.within, long) }
 
-pub broken_append : (a b : List ℕ) (code : ℕ) → IsBroken a code → IsBroken (a ++ b) code
+pub broken_append : (a b : List ℕ) (code : ℕ) → BreaksRule a code → BreaksRule (a ++ b) code
 broken_append a b code w =
     let long = length-append a b in record { long = omega (arith, w.long, long); header = head_append a b w.long ∙ w.header }
 
@@ -155,7 +151,7 @@ whole_fits held front n h waits fits w =
     ]
 
 -- and end a header where they make a faulty one
-pub broken_fits : (held front : List ℕ) (n code : ℕ) → stage_of held ≡ stage.Waits n → length front ≤ n → IsBroken (held ++ front) code → length (held ++ front) ≡ 8
+pub broken_fits : (held front : List ℕ) (n code : ℕ) → stage_of held ≡ stage.Waits n → length front ≤ n → BreaksRule (held ++ front) code → length (held ++ front) ≡ 8
 broken_fits held front n code waits fits w =
     let long = length-append held front in
     elim (cases_lt (length held) 8) [
@@ -165,3 +161,14 @@ broken_fits held front n code waits fits w =
       | inr le ↦
           absurd (waits_breaks n code (sym waits ∙ is_broken held code (record { long = le; header = sym (head_append held front le) ∙ w.header })))
     ]
+
+-- what waits has no 65,536 bytes
+short_by : (bytes : List ℕ) (n : ℕ) (r : Result Header ℕ) → 8 ≤ length bytes → header_of (take 8 bytes) ≡ r → stage_of bytes ≡ stage.Waits n → length bytes < 65536
+short_by bytes n (Err code) long is e = absurd (waits_breaks n code (sym e ∙ is_broken bytes code (record { long = long; header = is })))
+short_by bytes n (Ok h) long is e =
+    let short = waits_of bytes n h e long is in
+    let size = size_is _ h is in
+    omega (arith, short.less, size.most)
+
+pub short_is : (bytes : List ℕ) (n : ℕ) → stage_of bytes ≡ stage.Waits n → length bytes < 65536
+short_is bytes n e = elim (cases_lt (length bytes) 8) [ inl lt ↦ omega arith | inr le ↦ short_by bytes n _ le refl e ]

@@ -80,6 +80,11 @@ fault_in (stage.Whole h) = None
 abbrev pub fault_of : List ℕ → Option ℕ
 fault_of bytes = fault_in (stage_of bytes)
 
+-- eight bytes or more of which the first eight break a rule of this code
+pub record BreaksRule (bytes : List ℕ) (code : ℕ) : Type 0 where
+  pub long : 8 ≤ length bytes
+  pub header : header_of (take 8 bytes) ≡ Err code
+
 -- ---- all frames of bytes
 
 -- a place in a stream, so many bytes on

@@ -73,6 +73,18 @@ IsSettled s = (s.missed < 2 ^ 64) × IsSettledAt (stage_of s.held) s
 
 -- ---- any pieces
 
+-- the framer stands where the frames of all bytes end, has the fault that their rest has, and counts the rest
+pub record StandsAt (f : Split) (s : Framing) : Type 0 where
+  pub place : s.place ≡ f.place
+  pub fault : fault_of s.held ≡ fault_of f.rest
+  pub rest : rest_of s ≡ length f.rest % 2 ^ 64
+
+-- a framer with a fault goes nowhere
+pub record Stays (bytes : List ℕ) (code : ℕ) (s : Framing) : Type 0 where
+  pub fault : fault_of (after_feed bytes s).held ≡ Some code
+  pub place : (after_feed bytes s).place ≡ s.place
+  pub frames : frames_of bytes s ≡ []
+
 abbrev pub fed : List (List ℕ) → Framing → Framing
 fed [] s = s
 fed (bytes ∷ pieces) s = fed pieces (after_feed bytes s)

@@ -1,5 +1,5 @@
-ghost use Rattle.std.specs.Prelude.{[], ◌∷◌, ◌≡◌, ◌<◌, ◌≤◌, ◌++◌, length, IfOk, OnErr, OnOk};
-ghost use Rattle.ua_chunks.specs.Frames.{frame_at, moved, stage_of};
+ghost use Rattle.std.specs.Prelude.{[], ◌∷◌, ◌≡◌, ◌<◌, ◌≤◌, ◌++◌, length, IfOk, None, OnErr, OnOk};
+ghost use Rattle.ua_chunks.specs.Frames.{fault_of, frame_at, moved, stage_of};
 ghost use Rattle.ua_chunks.specs.Framing.{Awaits, Feeds, Fits, IsFrontOf, Shows, after_feed, frames_of, new_framing, rest_of};
 
 use crate::body::Body;
@@ -60,7 +60,8 @@ impl Framer {
 
     /// How many bytes are in no whole frame, modulo 2^64: those behind a fault are counted too.
     pub fn rest(&self) -> usize
-        ensures { result ≡ rest_of self.now }
+        ensures rest { result ≡ rest_of self.now }
+        ensures bound { fault_of self.now.held ≡ None → result < 65536 }
     {
         self.held.len().wrapping_add(self.missed)
     }
@@ -176,7 +177,12 @@ impl Framer {
         }
     }
 
-    fn extend(&mut self, alloc: Global, bytes: &[u8], to: &mut Vec<Frame>) -> Result<(), OutOfMemory>
+    fn extend(
+        &mut self,
+        alloc: Global,
+        bytes: &[u8],
+        to: &mut Vec<Frame>,
+    ) -> Result<(), OutOfMemory>
         requires { Awaits (length bytes.now) (stage_of self.old.held) }
         ensures ok { OnOk result (self.new ≡ after_feed bytes.now self.old) }
         ensures frames { OnOk result (to.new.items ≡ to.old.items ++ frames_of bytes.now self.old) }
