@@ -1,13 +1,12 @@
 -- What a framer does with one piece after another.
-use Rattle.std.proofs.Common.{◌≡◌, ℕ, ◌+◌, ◌-◌, ◌%◌, ◌^◌, ◌≤◌, ◌<◌, List, [], ◌∷◌, ◌++◌, length, take, drop, Bool, Option, Some, None, refl, sym, ap, subst, ◌∙◌, append_assoc, arith}
+use Rattle.std.proofs.Common.{◌≡◌, ℕ, ◌+◌, ◌-◌, ◌%◌, ◌^◌, ◌≤◌, ◌<◌, List, [], ◌∷◌, ◌++◌, length, take, drop, Option, Some, None, refl, sym, ap, subst, ◌∙◌, append_assoc, arith}
 use Rattle.std.proofs.lemmas.List.{append-nil, length-append, length-take, take-append-le, take_all, drop_all}
-use Rattle.ua_chunks.specs.declared.frame.Frame.{Frame}
 use Rattle.ua_chunks.specs.declared.frame.Header.{Header}
 use Rattle.ua_chunks.specs.declared.frame.Stage.{Stage}
 use Rattle.ua_chunks.specs.declared.frame.Stage.TheVariants as stage
-use Rattle.ua_chunks.specs.Frames.{BreaksRule, Split, fault_in, fault_of, frame_of, framed, header_of, moved, stage_of, unframed, with_first}
+use Rattle.ua_chunks.specs.Frames.{BreaksRule, Split, fault_in, fault_of, framed, header_of, moved, stage_of, unframed, with_first}
 use Rattle.ua_chunks.specs.Framing.{Awaits, Framing, IsSettled, IsSettledAt, after_feed, frames_of, held_of, holding, rest_of, split_of, with_split}
-use Rattle.ua_chunks.proofs.Stages.{short_is, is_whole, whole_is, is_broken, broken_append, broken_is, whole_append, whole_fits, broken_fits}
+use Rattle.ua_chunks.proofs.Stages.{short_is, whole_is, is_broken, broken_append, broken_is, whole_fits, broken_fits}
 use Rattle.ua_chunks.proofs.Splits.{IsOpen, cut, framed_open, framed_whole, joined}
 
 some_same : (n m : ℕ) → Some n ≡ Some m → n ≡ m

@@ -1,13 +1,12 @@
 -- The frames of bytes, one after the other, and of bytes that come in two pieces.
-use Rattle.std.proofs.Common.{◌≡◌, ℕ, zero, suc, ◌+◌, ◌-◌, ◌≤◌, ◌<◌, List, [], ◌∷◌, ◌++◌, length, take, drop, refl, sym, ap, subst, ◌∙◌, arith}
-use Rattle.std.proofs.lemmas.List.{length-append, length-drop, take-append-le, drop-append-le}
-use Rattle.ua_chunks.specs.declared.frame.Frame.{Frame}
+use Rattle.std.proofs.Common.{◌≡◌, ℕ, zero, suc, ◌≤◌, List, [], ◌∷◌, ◌++◌, length, drop, refl, sym, ap, subst, ◌∙◌, arith}
+use Rattle.std.proofs.lemmas.List.{length-drop, take-append-le, drop-append-le}
 use Rattle.ua_chunks.specs.declared.frame.Header.{Header}
 use Rattle.ua_chunks.specs.declared.frame.Stage.{Stage}
 use Rattle.ua_chunks.specs.declared.frame.Stage.TheVariants as stage
 use Rattle.ua_chunks.specs.Frames.{Split, frame_of, framed, framed_by, framed_up_to, moved, stage_of, unframed, with_first}
 use Rattle.ua_chunks.specs.Streams.{after_frames}
-use Rattle.ua_chunks.proofs.Stages.{is_whole, size_is, stage_short, whole_append, whole_is, is_broken, broken_append, broken_is}
+use Rattle.ua_chunks.proofs.Stages.{is_whole, size_is, stage_short, whole_append, whole_is}
 
 -- the bytes begin with no whole frame
 abbrev pub IsOpen : Stage → Type 0

@@ -1,11 +1,10 @@
 -- What a stage tells of bytes, and what it stays or becomes where more follow.
-use Rattle.std.proofs.Common.{◌≡◌, ℕ, ◌+◌, ◌-◌, ◌≤◌, ◌<◌, List, ◌++◌, length, take, drop, Option, Some, None, Result, Ok, Err, refl, sym, ap, ◌∙◌, arith, inl, inr, subst}
+use Rattle.std.proofs.Common.{◌≡◌, ℕ, ◌-◌, ◌≤◌, ◌<◌, List, ◌++◌, length, take, drop, Option, Some, None, Result, Ok, Err, refl, sym, ap, ◌∙◌, arith, inl, inr, subst}
 use Rattle.std.proofs.lemmas.Bool.{cases_lt, lt-ltb, le-ltb}
 use Rattle.std.proofs.lemmas.List.{length-append, take-append-le}
 use Rattle.byteorder.specs.Endian.{little_number}
 use Rattle.ua_chunks.specs.declared.frame.Letters.{Letters}
 use Rattle.ua_chunks.specs.declared.frame.Header.{Header}
-use Rattle.ua_chunks.specs.declared.frame.Stage.{Stage}
 use Rattle.ua_chunks.specs.declared.frame.Stage.TheVariants as stage
 use Rattle.ua_chunks.specs.declared.frame.TheConstants.{MOST_FRAME}
 use Rattle.ua_chunks.specs.Frames.{BreaksRule, header_of, judged_header, judged_stage, sized, stage_of, type_of}

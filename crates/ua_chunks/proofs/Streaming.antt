@@ -1,12 +1,9 @@
 -- Any pieces one after the other.
-use Rattle.std.proofs.Common.{◌≡◌, ℕ, ◌+◌, ◌-◌, ◌%◌, ◌^◌, ◌≤◌, ◌<◌, List, [], ◌∷◌, ◌++◌, length, take, Option, Some, None, refl, sym, ap, subst, ◌∙◌, append_assoc, arith}
-use Rattle.std.proofs.lemmas.List.{append-nil, length-append, length-take, take-append-le}
+use Rattle.std.proofs.Common.{◌≡◌, ℕ, ◌≤◌, List, [], ◌∷◌, ◌++◌, length, take, Option, Some, None, refl, sym, ap, subst, ◌∙◌, arith}
+use Rattle.std.proofs.lemmas.List.{append-nil, length-append, length-take}
 use Rattle.std.specs.List.{concat}
-use Rattle.ua_chunks.specs.declared.frame.Frame.{Frame}
-use Rattle.ua_chunks.specs.declared.frame.Stage.TheVariants as stage
-use Rattle.ua_chunks.specs.Frames.{BreaksRule, Split, fault_of, framed, unframed}
-use Rattle.ua_chunks.specs.Framing.{Framing, StandsAt, Stays, after_feed, fed, frames_of, given, held_of, holding, new_framing, rest_of, split_of, with_split}
-use Rattle.ua_chunks.proofs.Splits.{framed_open}
+use Rattle.ua_chunks.specs.Frames.{Split, fault_of, framed, unframed}
+use Rattle.ua_chunks.specs.Framing.{Framing, StandsAt, Stays, after_feed, fed, frames_of, given, held_of, new_framing, with_split}
 use Rattle.ua_chunks.proofs.Stages.{broken_append}
 use Rattle.ua_chunks.proofs.Pieces.{cut_frames, cut_state, faulty_is, framed_broken, front_broken, is_faulty, nothing_fed, nothing_framed}
 

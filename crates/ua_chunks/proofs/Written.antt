@@ -1,5 +1,5 @@
 -- Frames as bytes, both ways.
-use Rattle.std.proofs.Common.{◌≡◌, ℕ, zero, suc, ◌+◌, ◌-◌, ◌*◌, ◌/◌, ◌%◌, ◌^◌, ◌≤◌, ◌<◌, List, [], ◌∷◌, ◌++◌, Bool, true, false, cond, length, take, drop, codes, slice_index_or, All, Option, Some, None, Result, Ok, Err, ◌⊎◌, inl, inr, refl, sym, ap, subst, ◌∙◌, append_assoc, arith}
+use Rattle.std.proofs.Common.{◌≡◌, ℕ, zero, suc, ◌+◌, ◌/◌, ◌%◌, ◌^◌, ◌≤◌, ◌<◌, List, [], ◌∷◌, ◌++◌, Bool, true, false, cond, length, take, drop, codes, All, Option, Some, None, Ok, ◌⊎◌, inl, inr, refl, sym, ap, subst, ◌∙◌, append_assoc, arith}
 use Rattle.std.proofs.lemmas.Bool.{cases_lt, lt-ltb, le-ltb}
 use Rattle.std.proofs.lemmas.List.{append-nil, length-append, length-drop, length-take, take-append-drop, take-take, take_at, drop_at}
 use Rattle.std.proofs.lemmas.List.Elements.{All-drop, All-take}
@@ -17,7 +17,7 @@ use Rattle.ua_chunks.specs.declared.frame.Frame.{Frame}
 use Rattle.ua_chunks.specs.declared.frame.Stage.{Stage}
 use Rattle.ua_chunks.specs.declared.frame.Stage.TheVariants as stage
 use Rattle.ua_chunks.specs.declared.frame.TheConstants.{MOST_FRAME}
-use Rattle.ua_chunks.specs.Frames.{Split, frame_at, frame_of, framed, header_of, judged_header, letter, letters, moved, of, stage_of, type_of, unframed, with_first}
+use Rattle.ua_chunks.specs.Frames.{Split, frame_of, framed, header_of, judged_header, letter, letters, moved, of, stage_of, type_of, unframed, with_first}
 use Rattle.ua_chunks.specs.Streams.{AreFrom, IsFrame, IsFramed, after_frames, all_bytes, frame_bytes}
 use Rattle.ua_chunks.proofs.Stages.{IsWhole, is_whole, no_header, same_header, size_is, stage_short, whole_is}
 use Rattle.ua_chunks.proofs.Splits.{IsOpen, framed_open, framed_whole}

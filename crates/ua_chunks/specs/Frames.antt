@@ -1,7 +1,7 @@
 -- What the bytes of a stream are as frames (OPC 10000-6, 7.1.2.2 and 6.7.2.2), said of whole lists of bytes.
-use Rattle.std.specs.Prelude.{◌≡◌, ◌≤◌, ℕ, zero, suc, ◌+◌, ◌-◌, ◌%◌, ◌^◌, nat_lt, List, [], ◌∷◌, ◌++◌, length, take, drop, codes, Option, Some, None, Result, Ok, Err, if◌then◌else◌}
+use Rattle.std.specs.Prelude.{◌≡◌, ◌≤◌, ℕ, zero, suc, ◌+◌, ◌-◌, ◌%◌, ◌^◌, nat_lt, List, [], ◌∷◌, length, take, drop, codes, Option, Some, None, Result, Ok, Err, if◌then◌else◌}
 use Rattle.std.specs.Str.{bytes_eq}
-use Rattle.byteorder.specs.Endian.{little_number, little_bytes}
+use Rattle.byteorder.specs.Endian.{little_number}
 use Rattle.ua_chunks.specs.declared.frame.Kind.{Kind}
 use Rattle.ua_chunks.specs.declared.frame.Kind.TheVariants as kind
 use Rattle.ua_chunks.specs.declared.frame.Chunk.{Chunk}

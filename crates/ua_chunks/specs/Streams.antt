@@ -1,5 +1,5 @@
 -- Which frames a stream has (OPC 10000-6, 7.1.2.2 and 6.7.2.2), said without reading: which lists of bytes frames are.
-use Rattle.std.specs.Prelude.{◌≡◌, ◌≤◌, ℕ, ◌+◌, List, [], ◌∷◌, ◌++◌, length, Some, Ok, Err, ◌⊎◌}
+use Rattle.std.specs.Prelude.{◌≡◌, ◌≤◌, ℕ, ◌+◌, List, [], ◌∷◌, ◌++◌, length, ◌⊎◌}
 use Rattle.std.specs.List.{flat_map}
 use Rattle.byteorder.specs.Endian.{little_bytes}
 use Rattle.ua_chunks.specs.declared.frame.Kind.TheVariants as kind

@@ -106,7 +106,7 @@ fn text_of(alloc: Global, frames: &[Frame]) -> Result<String, Fail> {
             chunk,
             body,
         } = frame;
-        let size = body.len() as u64 + 8;
+        let size = body.len().saturating_add(8);
         text.push_str(&format!(in alloc; "{place} {kind} {chunk} {size}/")?)?;
     }
     Ok(text)
@@ -132,7 +132,7 @@ fn feeds(rt: &impl Abort, alloc: Global, row: &Row, pieces: &[&[u8]]) -> Result<
         assert_eq!(rt; framer.feed(alloc, &[], &mut frames), want);
         assert_eq!(rt; framer.feed(alloc, b"M", &mut frames), want);
         assert_eq!(rt; text_of(alloc, &frames)?.as_str(), text);
-        assert_eq!(rt; framer.rest(), rest + 1);
+        assert_eq!(rt; framer.rest(), rest.saturating_add(1));
     }
     Ok(())
 }
@@ -177,13 +177,12 @@ fn takes_the_largest_frame(rt: HostRuntime) -> Result<(), Fail> {
             assert_eq!(rt; framer.feed(alloc, piece, &mut frames), Ok(()));
         }
         assert_eq!(rt; framer.rest(), 0);
-        assert_eq!(rt; frames.len(), 1);
-        assert_eq!(rt; frames[0].place, 0);
-        assert_eq!(rt;
-            (frames[0].kind, frames[0].chunk),
-            (Kind::Msg, Chunk::Final)
-        );
-        assert_eq!(rt; frames[0].body.bytes(), &largest[8..]);
+        let [only] = frames.as_slice() else {
+            panic!(rt; "one frame in pieces of {size}");
+        };
+        assert_eq!(rt; only.place, 0);
+        assert_eq!(rt; (only.kind, only.chunk), (Kind::Msg, Chunk::Final));
+        assert_eq!(rt; Some(only.body.bytes()), largest.get(8..));
         let want = Err(FrameFault::Bad {
             place: 65_536,
             code: 0x8080_0000,
@@ -196,7 +195,9 @@ fn takes_the_largest_frame(rt: HostRuntime) -> Result<(), Fail> {
     }
     let mut framer = Framer::new(alloc);
     let mut frames = Vec::new(alloc);
-    assert_eq!(rt; framer.feed(alloc, &largest[..65_535], &mut frames), Ok(()));
+    for piece in largest.chunks(65_535).take(1) {
+        assert_eq!(rt; framer.feed(alloc, piece, &mut frames), Ok(()));
+    }
     assert_eq!(rt; framer.rest(), 65_535);
     Ok(())
 }

@@ -1,4 +1,4 @@
-use Rattle.std.proofs.Common.{◌≡◌, ℕ, ◌^◌, ◌<◌, List, [], sym, ap, subst, ◌∙◌}
+use Rattle.std.proofs.Common.{ℕ, List, sym, ap, subst, ◌∙◌}
 use Rattle.ua_chunks.specs.Frames.{moved, stage_of}
 use Rattle.ua_chunks.specs.Framing.{Framing, IsSettledAt}
 use Rattle.ua_chunks.proofs.Pieces.{none_missed}

@@ -1,4 +1,4 @@
-use Rattle.std.proofs.Common.{◌≡◌, ℕ, ◌+◌, ◌%◌, ◌^◌, ◌<◌, sym, ap, subst, ◌∙◌}
+use Rattle.std.proofs.Common.{ℕ, ◌+◌, ◌%◌, ◌^◌, ◌<◌, sym, ap, subst, ◌∙◌}
 use Rattle.ua_chunks.specs.Frames.{fault_of}
 use Rattle.ua_chunks.specs.Framing.{Framing}
 use Rattle.ua_chunks.proofs.Pieces.{small}
