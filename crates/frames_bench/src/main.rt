@@ -74,7 +74,9 @@ fn measure(rt: &HostRuntime, size: u32) -> io::Result<()>
         if found != Ok(want) {
             return println!(rt; "frames of {size} bytes: not all were found");
         }
-        println!(rt; "frames of {size} bytes in pieces of {piece}: {framing} MB/s, copied {copying} MB/s")?;
+        println!(rt;
+            "frames of {size} bytes in pieces of {piece}: {framing} MB/s, copied {copying} MB/s"
+        )?;
     }
     Ok(())
 }
