@@ -15,7 +15,8 @@ use Rattle.ua_variants.proofs.Codecs.{reads_both}
 use Rattle.show.specs.declared.fault.ShowFault.{ShowFault}
 use Rattle.show.specs.declared.fault.ShowFault.TheVariants as faults
 use Rattle.show.specs.Text.{value_text}
-use Rattle.show.specs.Value.{Refusal, refusal, Shows, shown_of, shown_value, IsCutOff, IsLeftOver, IsShown}
+use Rattle.show.specs.Answer.{Refusal, refusal, Shows}
+use Rattle.show.specs.Value.{shown_of, shown_value, IsCutOff, IsLeftOver, IsShown}
 
 abbrev Shown : Type 0
 Shown = Result (List ℕ) Refusal

@@ -10,7 +10,8 @@ ghost use Rattle.ua_variants.specs.Grammar.{count_of_array, data_value};
 ghost use Rattle.ua_variants.specs.Spelling.{flat_of, flat_of_array};
 ghost use Rattle.show.specs.declared.fault.ShowFault.TheVariants as faults;
 ghost use Rattle.show.specs.Text.{status_text, bytes_text, scalar_text, value_line, count_line, written_lines, array_lines, diagnostic_lines, variant_text, some_text, field_line, value_text};
-ghost use Rattle.show.specs.Value.{Shows, IsFaultOf, shown_of, shown_value, IsShown};
+ghost use Rattle.show.specs.Answer.{Shows};
+ghost use Rattle.show.specs.Value.{IsFaultOf, shown_of, shown_value, IsShown};
 
 use crate::fault::ShowFault;
 use crate::text::{
