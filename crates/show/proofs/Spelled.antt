@@ -15,7 +15,8 @@ use Rattle.ua_variants.proofs.Codecs.{reads_both}
 use Rattle.show.specs.declared.fault.ShowFault.{ShowFault}
 use Rattle.show.specs.declared.fault.ShowFault.TheVariants as faults
 use Rattle.show.specs.Text.{value_text}
-use Rattle.show.specs.Value.{Refusal, refusal, Shows, shown_of, shown_value, IsCutOff, IsLeftOver, IsShown}
+use Rattle.show.specs.Answer.{Refusal, refusal, Shows}
+use Rattle.show.specs.Value.{shown_of, shown_value, IsCutOff, IsLeftOver, IsShown}
 
 abbrev Shown : Type 0
 Shown = Result (List ℕ) Refusal
@@ -62,13 +63,16 @@ is_shown view bytes (Ok x) (Err Short) e shown = ok_not_err (view x) (refusal (l
 is_shown view bytes (Ok x) (Err (Bad p k)) e shown = ok_not_err (view x) (refusal p k) (sym shown)
 is_shown view bytes (Err (faults.Bad place code)) (Err Short) e shown =
     let same = err_is (refusal (length bytes) BAD_DECODING_ERROR) (refusal place code) shown in
-    inl (sym (place_is (length bytes) BAD_DECODING_ERROR place code same), sym (code_is (length bytes) BAD_DECODING_ERROR place code same),
-      is_read (data_value 101) (data_value_cut 101) (data_value_at 101) (reads_both 101).stamped bytes (Err values.Short) e)
+    inl (
+      sym (place_is (length bytes) BAD_DECODING_ERROR place code same),
+      sym (code_is (length bytes) BAD_DECODING_ERROR place code same),
+      is_read (data_value 101) (data_value_cut 101) (data_value_at 101) (reads_both 101).stamped bytes (Err values.Short) e,
+    )
 is_shown view bytes (Err (faults.Bad place code)) (Err (Bad p k)) e shown =
     let same = err_is (refusal p k) (refusal place code) shown in
     let fault = is_read (data_value 101) (data_value_cut 101) (data_value_at 101) (reads_both 101).stamped bytes (Err (values.Bad p k)) e in
     inr (inr (subst (λ (n : ℕ). IsFault (data_value 101) (data_value_cut 101) bytes place n) (code_is p k place code same)
-      (subst (λ (n : ℕ). IsFault (data_value 101) (data_value_cut 101) bytes n k) (place_is p k place code same) fault)))
+    (subst (λ (n : ℕ). IsFault (data_value 101) (data_value_cut 101) bytes n k) (place_is p k place code same) fault)))
 is_shown view bytes (Err faults.OutOfMemory) (Err f) e shown = tt
 
 is_itself : (n : ℕ) → (n == n) ≡ true

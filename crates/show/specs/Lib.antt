@@ -1,2 +1,4 @@
+pub mod Answer
 pub mod Text
 pub mod Value
+pub mod Stream

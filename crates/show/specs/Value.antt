@@ -11,21 +11,8 @@ use Rattle.ua_variants.specs.Grammar.{data_value, data_value_cut}
 use Rattle.ua_variants.specs.Reader.{data_value_at}
 use Rattle.show.specs.declared.fault.ShowFault.{ShowFault}
 use Rattle.show.specs.declared.fault.ShowFault.TheVariants as faults
+use Rattle.show.specs.Answer.{Refusal, refusal}
 use Rattle.show.specs.Text.{value_text}
-
--- what breaks a rule, and the code of the rule
-pub record Refusal : Type 0 where
-  pub place : ℕ
-  pub code : ℕ
-
-abbrev pub refusal : ℕ → ℕ → Refusal
-refusal place code = record { place = place; code = code }
-
--- what a call answered is what is to be shown, unless memory was refused
-abbrev pub Shows : {X : Type 0} → (X → List ℕ) → Result X ShowFault → Result (List ℕ) Refusal → Type 0
-Shows view (Ok x) shown = shown ≡ Ok (view x)
-Shows view (Err (faults.Bad place code)) shown = shown ≡ Err (refusal place code)
-Shows view (Err faults.OutOfMemory) shown = Unit {0}
 
 -- a value and how many of so many bytes it takes, or why there is none
 abbrev pub shown_of : ℕ → Result (Stamped Variant × ℕ) Fault → Result (List ℕ) Refusal

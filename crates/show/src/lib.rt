@@ -2,8 +2,12 @@
 #![tactic(auto)]
 
 mod fault;
+mod stream;
+#[cfg(test)]
+mod tests;
 mod text;
 mod value;
 
 pub use fault::ShowFault;
+pub use stream::show_stream;
 pub use value::show_value;

@@ -96,7 +96,7 @@ impl Plain for Uuid {
     ghost text = { guid_text };
 
     fn plain(&self, alloc: Global) -> Result<String, AllocError> {
-        self.to_string(alloc)
+        self.hyphenated().to_string(alloc)
     }
 }
 
@@ -198,7 +198,10 @@ pub(crate) fn put_written_line<T: Element>(item: &T, to: &mut Vec<u8>) -> Result
 }
 
 /// A line for each of the elements, with the bytes that are written of it.
-pub(crate) fn put_written_lines<T: Element>(items: &[T], to: &mut Vec<u8>) -> Result<(), OutOfMemory>
+pub(crate) fn put_written_lines<T: Element>(
+    items: &[T],
+    to: &mut Vec<u8>,
+) -> Result<(), OutOfMemory>
     ensures { OnOk result (to.new.items ≡ to.old.items ++ written_lines T.written items.now) }
 {
     for item in items {

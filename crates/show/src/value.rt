@@ -10,7 +10,8 @@ ghost use Rattle.ua_variants.specs.Grammar.{count_of_array, data_value};
 ghost use Rattle.ua_variants.specs.Spelling.{flat_of, flat_of_array};
 ghost use Rattle.show.specs.declared.fault.ShowFault.TheVariants as faults;
 ghost use Rattle.show.specs.Text.{status_text, bytes_text, scalar_text, value_line, count_line, written_lines, array_lines, diagnostic_lines, variant_text, some_text, field_line, value_text};
-ghost use Rattle.show.specs.Value.{Shows, IsFaultOf, shown_of, shown_value, IsShown};
+ghost use Rattle.show.specs.Answer.{Shows};
+ghost use Rattle.show.specs.Value.{IsFaultOf, shown_of, shown_value, IsShown};
 
 use crate::fault::ShowFault;
 use crate::text::{
@@ -132,7 +133,11 @@ fn put_array_lines(items: &Array, to: &mut Vec<u8>) -> Result<(), OutOfMemory>
     put_array(items, to)
 }
 
-fn put_written_array<T: Element>(number: u8, items: &[T], to: &mut Vec<u8>) -> Result<(), OutOfMemory>
+fn put_written_array<T: Element>(
+    number: u8,
+    items: &[T],
+    to: &mut Vec<u8>,
+) -> Result<(), OutOfMemory>
     ensures { OnOk result (to.new.items ≡ to.old.items ++ (count_line number (length items.now) ++ written_lines T.written items.now)) }
 {
     put_count(number, items.len(), to)?;
@@ -196,7 +201,11 @@ fn put_status_field(status: Option<u32>, to: &mut Vec<u8>) -> Result<(), OutOfMe
 }
 
 /// The line of a field with a text of its own, where it is there.
-fn put_field<T: Plain + Copy>(name: &str, field: Option<T>, to: &mut Vec<u8>) -> Result<(), OutOfMemory>
+fn put_field<T: Plain + Copy>(
+    name: &str,
+    field: Option<T>,
+    to: &mut Vec<u8>,
+) -> Result<(), OutOfMemory>
     ensures { OnOk result (to.new.items ≡ to.old.items ++ field_line name.now T.text field) }
 {
     match field {

@@ -1,0 +1,5 @@
+pub mod Stages
+pub mod Splits
+pub mod Pieces
+pub mod Streaming
+pub mod Written
