@@ -1,5 +1,5 @@
 -- What each command answers of its whole input, and what that means.
-use Rattle.std.specs.Prelude.{◌≡◌, ℕ, List, Result, Ok, Err}
+use Rattle.std.specs.Prelude.{◌≡◌, ℕ, List, None, Result, Ok, Err}
 use Rattle.delivery_log.specs.Caused.{Caused}
 use Rattle.delivery_log.specs.Safe.{InOrder, Safe}
 use Rattle.set_model.specs.Report.{report_text}
@@ -11,8 +11,11 @@ use Rattle.ua_variants.specs.declared.variant.Variant.{Variant}
 use Rattle.ua_variants.specs.declared.variant.Stamped.{Stamped}
 use Rattle.ua_variants.specs.Grammar.{data_value}
 use Rattle.show.specs.Text.{value_text}
+use Rattle.ua_chunks.specs.Frames.{Split, fault_of}
+use Rattle.ua_chunks.specs.Streams.{IsFramed}
+use Rattle.show.specs.Answer as shows
 use Rattle.show.specs.Value.{shown_value}
-use Rattle.show.specs.Value as shows
+use Rattle.show.specs.Stream.{stream_text, shown_stream}
 use Rattle.uaset.specs.declared.words.Command.{Command}
 use Rattle.uaset.specs.declared.words.Command.TheVariants as command
 use Rattle.uaset.specs.declared.answer.Refusal.{Refusal}
@@ -33,6 +36,7 @@ shown (Err fault) = Err (refusal.Show fault.place fault.code)
 abbrev pub answer_to : Command → List ℕ → Result (List ℕ) Refusal
 answer_to command.Replay bytes = replayed (answer_of bytes)
 answer_to command.ShowValue bytes = shown (shown_value bytes)
+answer_to command.ShowStream bytes = shown (shown_stream bytes)
 
 -- what a call answered is this, unless memory was refused
 abbrev pub Answered : {A : Type 0} → (A → List ℕ) → Result A Refusal → Result (List ℕ) Refusal → Type 0
@@ -49,7 +53,9 @@ pub record IsTrustworthy (lines : List Line) : Type 0 where
   pub order : InOrder (changes_in lines) (client_log lines)
   pub caused : Caused (past_of lines) (client_log lines)
 
--- the text is the report of a log that can be trusted; or it is what the one value holds that the whole input spells
+-- the text is the report of a log that can be trusted; or what the one value holds that the whole input spells; or a line
+-- for each of the frames that the input begins with, as many as there are, and how many bytes follow
 abbrev pub Means : Command → List ℕ → List ℕ → Type 0
 Means command.Replay bytes text = (lines : List Line) × (scenario_of 0 bytes ≡ Ok lines) × (text ≡ report_text (client_log lines)) × IsTrustworthy lines
 Means command.ShowValue bytes text = (d : Stamped Variant) × data_value 101 d bytes × (text ≡ value_text d)
+Means command.ShowStream bytes text = (split : Split) × IsFramed 0 bytes split × (fault_of split.rest ≡ None) × (text ≡ stream_text split)

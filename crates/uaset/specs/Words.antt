@@ -14,6 +14,7 @@ abbrev pub show_of : List (List ℕ) → Result Command ℕ
 show_of [] = Err 1
 show_of (word ∷ words) =
     if bytes_eq word (codes "value") then only command.ShowValue 2 words
+    else if bytes_eq word (codes "stream") then only command.ShowStream 2 words
     else Err 1
 
 -- the command, or the place of the first word that fits none, or their count
@@ -27,3 +28,4 @@ command_of (word ∷ words) =
 abbrev pub most_bytes : Command → ℕ
 most_bytes command.Replay = MOST_SCENARIO_BYTES
 most_bytes command.ShowValue = MOST_SHOWN_BYTES
+most_bytes command.ShowStream = MOST_SHOWN_BYTES

@@ -3,13 +3,14 @@
 ghost use Rattle.std.specs.Prelude.{IfOk};
 ghost use Rattle.scenario.specs.Scenario.{scenario_of};
 ghost use Rattle.show.specs.Value.{Shows, shown_value};
+ghost use Rattle.show.specs.Stream.{shown_stream};
 ghost use Rattle.uaset.specs.Answer.{Gives, answer_of};
 ghost use Rattle.uaset.specs.Commands.{Answered, Means, answer_to, replayed, shown};
 
 use crate::replay::replay;
 use crate::words::Command;
 use scenario::{FaultKind, ReadError};
-use show::{ShowFault, show_value};
+use show::{ShowFault, show_stream, show_value};
 use std::alloc::Global;
 
 /// Why there is no answer.
@@ -50,6 +51,18 @@ fn value(alloc: Global, bytes: &[u8]) -> Result<Vec<u8>, Refusal>
     }
 }
 
+/// The frames of a stream.
+fn stream(alloc: Global, bytes: &[u8]) -> Result<Vec<u8>, Refusal>
+    ensures exact { Answered (λ text. text.items) result (shown (shown_stream bytes.now)) }
+    ensures means { IfOk result (λ text. Means Command.ShowStream bytes.now text.items) }
+{
+    match show_stream(alloc, bytes) {
+        Ok(text) => Ok(text),
+        Err(ShowFault::Bad { place, code }) => Err(Refusal::Show { place, code }),
+        Err(ShowFault::OutOfMemory) => Err(Refusal::OutOfMemory),
+    }
+}
+
 impl Command {
     /// What the command writes of this input.
     pub(crate) fn answer(self, alloc: Global, bytes: &[u8]) -> Result<Vec<u8>, Refusal>
@@ -59,6 +72,7 @@ impl Command {
         match self {
             Command::Replay => replayed(alloc, bytes),
             Command::ShowValue => value(alloc, bytes),
+            Command::ShowStream => stream(alloc, bytes),
         }
     }
 }

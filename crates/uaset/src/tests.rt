@@ -151,6 +151,38 @@ fn values_are_shown(rt: HostRuntime) -> Result<(), Fail> {
 }
 
 #[test]
+fn streams_are_shown(rt: HostRuntime) -> Result<(), Fail> {
+    let words: &[&str] = &["show", "stream"];
+    let text = "frame 0 MSG F 8\nframe 8 CLO F 9\nrest 2\n";
+    let bytes: &[u8] = b"MSGF\x08\0\0\0CLOF\x09\0\0\0aHE";
+    let fault = Status::Show {
+        place: 8,
+        code: 0x807e_0000,
+    };
+    let alloc = rt.alloc();
+    shows(&rt, alloc, words, bytes, [&[], &[]], Status::Ok, text)?;
+    shows(
+        &rt,
+        alloc,
+        words,
+        b"MSGF\x08\0\0\0MSGX\x09\0\0\0",
+        [&[], &[]],
+        fault,
+        "",
+    )?;
+    shows(&rt, alloc, words, bytes, [&[2], &[]], Status::ReadFault, "")?;
+    shows(
+        &rt,
+        alloc,
+        words,
+        bytes,
+        [&[], &[1]],
+        Status::WriteFault,
+        "",
+    )
+}
+
+#[test]
 fn words_and_statuses(rt: HostRuntime) -> Result<(), Fail> {
     let alloc = rt.alloc();
     let rows: [(&[&str], usize); 8] = [

@@ -10,6 +10,8 @@ pub enum Command {
     Replay,
     /// Reads one DataValue and writes what it holds.
     ShowValue,
+    /// Reads one direction of a UA TCP stream and writes a line for each frame.
+    ShowStream,
 }
 
 /// The most bytes of a scenario.
@@ -45,6 +47,7 @@ impl Command {
         match self {
             Command::Replay => MOST_SCENARIO_BYTES,
             Command::ShowValue => MOST_SHOWN_BYTES,
+            Command::ShowStream => MOST_SHOWN_BYTES,
         }
     }
 }
@@ -68,6 +71,8 @@ fn show_of(words: &[&str]) -> Result<Command, usize>
         [first, rest @ ..] => {
             if *first == "value" {
                 only(Command::ShowValue, 2, rest)
+            } else if *first == "stream" {
+                only(Command::ShowStream, 2, rest)
             } else {
                 Err(1)
             }
