@@ -1,0 +1,4 @@
+pub mod Token
+pub mod Session
+pub mod State
+pub mod Table
