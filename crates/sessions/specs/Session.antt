@@ -110,3 +110,7 @@ with_parked parked session = record session { queued = with_publish parked sessi
 -- without the oldest queued Publish
 abbrev pub without_oldest : Session → Session
 without_oldest session = record session { queued = drop 1 session.queued }
+
+-- whether a Publish is queued
+abbrev pub waits : Session → Bool
+waits session = not (length session.queued == 0)

@@ -1,5 +1,5 @@
 -- What each call does to the sessions of a server.
-use Rattle.std.specs.Prelude.{ℕ, ◌+◌, ◌-◌, ◌^◌, ◌==◌, ◌&&◌, ◌||◌, not, nat_le, nat_lt, min, length, List, [], ◌∷◌, ◌++◌, Bool, true, false, if◌then◌else◌, Option, Some, None, is_some, Result, Ok, Err, slice_get, find, filter, map}
+use Rattle.std.specs.Prelude.{ℕ, ◌+◌, ◌-◌, ◌^◌, ◌==◌, ◌&&◌, ◌||◌, not, nat_le, nat_lt, min, length, List, [], ◌∷◌, ◌++◌, Bool, true, false, if◌then◌else◌, Option, Some, None, is_some, Result, Ok, Err, slice_get, find, position, filter, map}
 use Rattle.std.specs.List.{list_all}
 use Rattle.ua_base.specs.declared.status.TheConstants.{BAD_SESSION_ID_INVALID}
 use Rattle.sessions.specs.declared.fault.SessionFault.{SessionFault}
@@ -54,17 +54,21 @@ owned_among sessions ownership = record ownership { owner = owner_among sessions
 abbrev pub with_sessions : List Session → SessionsState → SessionsState
 with_sessions sessions state = record state { sessions = sessions; owned = map (owned_among sessions) state.owned }
 
--- without the first one that is bound to no connection
-abbrev pub without_unbound : List Session → List Session
-without_unbound [] = []
-without_unbound (session ∷ sessions) = if is_unbound session then sessions else session ∷ without_unbound sessions
+-- without the first session that passes a test
+abbrev pub without_first : (Session → Bool) → List Session → List Session
+without_first test [] = []
+without_first test (session ∷ sessions) = if test session then sessions else session ∷ without_first test sessions
 
 abbrev pub are_bound : List Session → Bool
 are_bound sessions = list_all (λ session. not (is_unbound session)) sessions
 
+-- the place of the one that leaves for a further one
+abbrev pub place_to_leave : List Session → Option ℕ
+place_to_leave sessions = if nat_lt (length sessions) MOST_SESSIONS then None else position is_unbound sessions
+
 -- with room for one more: where the most exist, the oldest unbound one goes
 abbrev pub with_room : List Session → List Session
-with_room sessions = if nat_lt (length sessions) MOST_SESSIONS then sessions else without_unbound sessions
+with_room sessions = if nat_lt (length sessions) MOST_SESSIONS then sessions else without_first is_unbound sessions
 
 -- no session more is given where the most exist and each is bound, or where the counter stands at its last value
 abbrev pub is_full : SessionsState → Bool
@@ -134,7 +138,7 @@ oldest_of (Some session) = slice_get session.queued 0
 -- whether a Publish of that session is queued
 abbrev pub waits : Option Session → Bool
 waits None = false
-waits (Some session) = not (length session.queued == 0)
+waits (Some session) = one.waits session
 
 -- the connection to which it is bound
 abbrev pub conn_of : Option Session → Option ℕ
@@ -158,6 +162,9 @@ owned_by id (Some session) state =
 abbrev pub owned : ℕ → ℕ → SessionsState → SessionsState
 owned id counter state = owned_by id (session_at counter state.sessions) state
 
+abbrev pub without_id : ℕ → List Ownership → List Ownership
+without_id id owned = filter (λ ownership. not (ownership.id == id)) owned
+
 -- nothing is kept of this subscription
 abbrev pub disowned : ℕ → SessionsState → SessionsState
-disowned id state = record state { owned = filter (λ ownership. not (ownership.id == id)) state.owned }
+disowned id state = record state { owned = without_id id state.owned }

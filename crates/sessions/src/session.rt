@@ -1,6 +1,6 @@
-ghost use Rattle.std.specs.Prelude.{◌≡◌, [], ◌∷◌, ◌++◌, drop, length, find, OnOk, OnErr, IfOk, slice_get};
+ghost use Rattle.std.specs.Prelude.{◌≡◌, ◌==◌, [], ◌∷◌, ◌++◌, drop, length, find, OnOk, OnErr, IfOk, slice_get};
 ghost use Rattle.std.specs.Option.{option_copied};
-ghost use Rattle.sessions.specs.Session.{activate_answer, activated, bound_answer, check_answer, driven_out, has_token, is_bound_to, is_numbered, is_unbound, lasts_past, may_activate, new_session, requested, unbound_from, with_parked, with_publish, without_oldest};
+ghost use Rattle.sessions.specs.Session.{activate_answer, activated, bound_answer, check_answer, driven_out, has_token, is_bound_to, is_numbered, is_unbound, lasts_past, may_activate, new_session, requested, unbound_from, waits, with_parked, with_publish, without_oldest};
 ghost use Rattle.sessions.specs.Table.{session_at};
 
 use crate::fault::SessionFault;
@@ -67,6 +67,12 @@ impl Queue {
         } else {
             Ok(None)
         }
+    }
+
+    fn is_empty(&self) -> bool
+        ensures { result ≡ (length self.now == 0) }
+    {
+        self.publishes.is_empty()
     }
 
     fn unpark(&mut self) -> Option<Parked>
@@ -209,6 +215,12 @@ impl Session {
         ensures unchanged { OnErr result (self.new ≡ self.old) }
     {
         self.queued.park(parked)
+    }
+
+    pub fn waits(&self) -> bool
+        ensures { result ≡ waits self.now }
+    {
+        !self.queued.is_empty()
     }
 
     pub fn unpark(&mut self) -> Option<Parked>
