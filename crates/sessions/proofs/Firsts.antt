@@ -24,11 +24,11 @@ pub record IsNone (test : Session → Bool) (sessions : List Session) : Type 0 w
 
 first_here : (test : Session → Bool) (first : Session) (sessions : List Session) → test first ≡ true → IsFirst test (first ∷ sessions) 0 first
 first_here test first sessions passes = record {
-    within = omega arith;
-    found = rw passes refl;
-    changes = λ change. rw passes refl;
-    leaves = rw passes refl;
-  }
+  within = omega arith;
+  found = rw passes refl;
+  changes = λ change. rw passes refl;
+  leaves = rw passes refl;
+}
 
 first_later : (test : Session → Bool) (first : Session) (sessions : List Session) (place : ℕ) (session : Session) → test first ≡ false
     → IsFirst test sessions place session → IsFirst test (first ∷ sessions) (suc place) session
@@ -43,10 +43,10 @@ first_later test first sessions place session fails h =
 
 none_here : (test : Session → Bool) (first : Session) (sessions : List Session) → test first ≡ false → IsNone test sessions → IsNone test (first ∷ sessions)
 none_here test first sessions fails h = record {
-    found = rw fails h.found;
-    changes = λ change. rw fails (ap (λ more. first ∷ more) (h.changes change));
-    leaves = rw fails (ap (λ more. first ∷ more) h.leaves);
-  }
+  found = rw fails h.found;
+  changes = λ change. rw fails (ap (λ more. first ∷ more) (h.changes change));
+  leaves = rw fails (ap (λ more. first ∷ more) h.leaves);
+}
 
 place_here : (test : Session → Bool) (first : Session) (sessions : List Session) → test first ≡ true → position_or_len test (first ∷ sessions) ≡ 0
 place_here test first sessions passes = rw passes refl
@@ -71,6 +71,7 @@ first_test test first sessions place session false is rest at within reads =
     subst Q (sym later)
     (first_later test first sessions (position_or_len test sessions) session is
     (rest (position_or_len test sessions) refl (omega arith) (reads ∙ ap (λ k. get_or (first ∷ sessions) k session) later)))
+
 -- the session at the place where the test passes first
 first_by : (test : Session → Bool) (sessions : List Session) (place : ℕ) (session : Session) → place ≡ position_or_len test sessions → place < length sessions
     → session ≡ get_or sessions place session → IsFirst test sessions place session
@@ -87,6 +88,7 @@ none_test test first sessions true is rest past =
 none_test test first sessions false is rest past =
     let later = place_later test first sessions is in
     none_here test first sessions is (rest (omega arith))
+
 -- no place where the test passes
 none_by : (test : Session → Bool) (sessions : List Session) → length sessions ≤ position_or_len test sessions → IsNone test sessions
 none_by test [] past = record { found = refl; changes = λ change. refl; leaves = refl }

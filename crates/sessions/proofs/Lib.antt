@@ -1,2 +1,6 @@
+pub mod Counters
 pub mod Firsts
 pub mod Moments
+pub mod Owners
+pub mod Steps
+pub mod TokenLemmas

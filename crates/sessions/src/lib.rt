@@ -2,12 +2,16 @@
 #![tactic(auto)]
 
 mod fault;
+mod laws;
 mod ownership;
 mod session;
 mod table;
 mod tokens;
 
 pub use fault::SessionFault;
+pub use laws::{
+    counters_rise, owners_leave, sessions_expire_when_due, stay_sound, tokens_tell_apart,
+};
 pub use session::{MOST_QUEUED, Parked};
 pub use table::{MOST_SESSIONS, Sessions};
 pub use tokens::token;

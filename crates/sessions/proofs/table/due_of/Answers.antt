@@ -22,5 +22,5 @@ returns c =
     let so_far = c.loop-session.invariant.1 in
     let most = c.loop-session.invariant.0 in
     let none : due_of (drop c.loop-session.session-index c.args.sessions.now) ≡ due_of [] =
-        ap due_of (drop_all c.loop-session.session-index c.args.sessions.now c.loop-session-test.false) in
+    ap due_of (drop_all c.loop-session.session-index c.args.sessions.now c.loop-session-test.false) in
     omega arith
