@@ -112,3 +112,17 @@ given_rise (Unpark session ∷ calls) state low under = given_rise calls (after_
 given_rise (Own id session ∷ calls) state low under =
     given_rise calls (after_call (Own id session) state) low (rw (last_owned id (session_at session state.sessions) state) under)
 given_rise (Disown id ∷ calls) state low under = given_rise calls (after_call (Disown id) state) low under
+
+given_left : (last : ℕ) (session : Session) (sessions left : List Session) (b : Bool) → All (λ counter. counter ≤ last) (counters (session ∷ sessions))
+    → All (λ counter. counter ≤ last) (counters left) → All (λ counter. counter ≤ last) (counters (cond b sessions (session ∷ left)))
+given_left last session sessions left true given rest = All-tail (λ counter. counter ≤ last) session.counter (counters sessions) given
+given_left last session sessions left false given rest =
+    All-cons (λ counter. counter ≤ last) session.counter (counters left)
+    (All-head (λ counter. counter ≤ last) session.counter (counters sessions) given) rest
+
+pub given_without : (test : Session → Bool) (last : ℕ) (sessions : List Session) → All (λ counter. counter ≤ last) (counters sessions)
+    → All (λ counter. counter ≤ last) (counters (without_first test sessions))
+given_without test last [] given = given
+given_without test last (session ∷ sessions) given =
+    given_left last session sessions (without_first test sessions) (test session) given
+    (given_without test last sessions (All-tail (λ counter. counter ≤ last) session.counter (counters sessions) given))
