@@ -98,7 +98,7 @@ given_rise (Create conn uri timeout now ∷ calls) state low under =
     by_refusal (is_full state) (given_rise calls)
   where
     by_refusal : (b : Bool) → ((after : SessionsState) (low : ℕ) → low ≤ after.last_counter → RiseAbove low (counters_given calls after))
-      → RiseAbove low (given_by_create b state ++ counters_given calls (after_create b conn uri timeout now state))
+        → RiseAbove low (given_by_create b state ++ counters_given calls (after_create b conn uri timeout now state))
     by_refusal true rest = rest state low under
     by_refusal false rest = (omega arith, rest (after_create false conn uri timeout now state) (state.last_counter + 1) (omega arith))
 given_rise (Activate token conn now ∷ calls) state low under = given_rise calls (after_call (Activate token conn now) state) low under

@@ -1,7 +1,7 @@
 -- What is kept of the owners.
 use Rattle.std.proofs.Common.{◌≡◌, ℕ, ◌+◌, List, [], ◌∷◌, ◌++◌, Bool, true, false, cond, not, Option, Some, None, refl, sym, ◌∙◌, ap, ap₂, arith}
 use Rattle.std.specs.List.{All, filter, find}
-use Rattle.std.specs.Prelude.{map, ◌==◌, IfSome}
+use Rattle.std.specs.Prelude.{map, ◌==◌, IfSome, is_some}
 use Rattle.std.specs.Option.{option_or}
 use Rattle.std.proofs.lemmas.Bool.Decides.{nat_tests, Decides-eqb}
 use Rattle.std.proofs.lemmas.List.Elements.{All-map, All-weaker, All-from_recursion}
@@ -10,7 +10,7 @@ use Rattle.sessions.specs.declared.ownership.Ownership.{Ownership}
 use Rattle.sessions.specs.declared.session.Session.{Session}
 use Rattle.sessions.specs.Session.{is_numbered}
 use Rattle.sessions.specs.Sound.{AreApart, IsOwned}
-use Rattle.sessions.specs.Table.{closed, lives, owned, owned_among, owned_by, owner_among, ownership_of, session_at, without_id}
+use Rattle.sessions.specs.Table.{closed, keeps, lives, owned, owned_among, owned_by, owner_among, ownership_of, session_at, without_id}
 use Rattle.sessions.specs.State.{SessionsState}
 
 -- an owner that is kept exists
@@ -83,6 +83,14 @@ apart_part p [] apart = tt
 apart_part p (ownership ∷ owned) apart =
     apart_step ownership (filter p owned) (p ownership) (none_part p ownership.id owned apart.0) (apart_part p owned apart.1)
 
+-- what is kept is none where nothing is
+none_kept : (kept : Option Ownership) → is_some kept ≡ false → kept ≡ None
+none_kept None is = refl
+none_kept (Some ownership) is = absurd cc
+
+pub not_kept : (id : ℕ) (owned : List Ownership) → keeps id owned ≡ false → ownership_of id owned ≡ None
+not_kept id owned is = none_kept (ownership_of id owned) is
+
 -- a subscription of which nothing was kept is apart from the others
 other_id : (first second : ℕ) (ownership : Ownership) (more : Option Ownership) (m : Bool) → (first == second) ≡ m → cond m (Some ownership) more ≡ None
     → ((second == first) ≡ false) × (more ≡ None)
@@ -118,17 +126,18 @@ same_number counter [] session is = absurd cc
 same_number counter (first ∷ sessions) session is = by_test (first.counter == counter) refl is (same_number counter sessions session)
   where
     by_test : (b : Bool) → (first.counter == counter) ≡ b → cond b (Some first) (session_at counter sessions) ≡ Some session
-      → (session_at counter sessions ≡ Some session → session.counter ≡ counter) → session.counter ≡ counter
+        → (session_at counter sessions ≡ Some session → session.counter ≡ counter) → session.counter ≡ counter
     by_test true test chosen rest = let same : first ≡ session = cc in ap (λ s. s.counter) (sym same) ∙ (Decides-eqb first.counter counter).0 test
     by_test false test chosen rest = rest chosen
 
 itself : (id : ℕ) → (id == id) ≡ true
 itself id = (Decides-eqb id id).1 refl
 
-pub owns : (id counter : ℕ) (session : Session) (state : SessionsState) → ownership_of id state.owned ≡ None
+pub owns : (id counter : ℕ) (session : Session) (state : SessionsState) → keeps id state.owned ≡ false
     → session_at counter state.sessions ≡ Some session
     → ownership_of id (owned id counter state).owned ≡ Some (record { id = id; owner = Some counter; uri = session.uri })
-owns id counter session state none is =
+owns id counter session state fresh is =
+    let none = not_kept id state.owned fresh in
     let numbered = same_number counter state.sessions session is in
     ap (λ by. ownership_of id (owned_by id by state).owned) is
     ∙ found_last id state.owned (record { id = id; owner = Some session.counter; uri = session.uri }) none

@@ -13,10 +13,10 @@ use Rattle.sessions.specs.Session as one
 use Rattle.sessions.specs.Session.{has_token, is_numbered, is_unbound, lasts_past, new_session}
 use Rattle.sessions.specs.Sound.{AreApart, IsOwned, IsSound, IsTidy, RiseAbove, counters}
 use Rattle.sessions.specs.State.{SessionsState}
-use Rattle.sessions.specs.Table.{are_bound, at_first, created, is_full, lives, no_sessions, owned, owned_by, ownership_of, session_at, with_room, with_sessions, without_first, without_id}
+use Rattle.sessions.specs.Table.{are_bound, at_first, created, is_full, keeps, lives, no_sessions, owned, owned_by, ownership_of, session_at, with_room, with_sessions, without_first, without_id}
 use Rattle.sessions.proofs.Counters.{Numbers, counters_at_first, counters_map, given_kept, given_without, lives_by_counter, rise_kept, rise_more, rise_without}
 use Rattle.sessions.proofs.Moments.{length_kept}
-use Rattle.sessions.proofs.Owners.{apart_among, apart_more, apart_part, owners_among, owners_stay, same_number}
+use Rattle.sessions.proofs.Owners.{apart_among, apart_more, apart_part, not_kept, owners_among, owners_stay, same_number}
 use Rattle.sessions.proofs.Tidy.{bound_found, tidy_activated, tidy_first, tidy_new, tidy_parked, tidy_requested, tidy_unbound, tidy_unparked, tidy_without}
 
 -- the sessions change, and their counters stay
@@ -36,7 +36,7 @@ sound_changed state after h same tidy =
       most = omega arith;
       tidy = tidy;
       owners = owners_stay state.sessions after state.owned
-        (λ counter. lives_by_counter counter after ∙ ap (list_any (λ n. n == counter)) same ∙ sym (lives_by_counter counter state.sessions)) h.owners;
+          (λ counter. lives_by_counter counter after ∙ ap (list_any (λ n. n == counter)) same ∙ sym (lives_by_counter counter state.sessions)) h.owners;
       apart = h.apart;
     }
 
@@ -45,14 +45,14 @@ pub sound_others : (state : SessionsState) (after : List Session) → state.last
     → All (λ counter. counter ≤ state.last_counter) (counters after) → length after ≤ MOST_SESSIONS → All IsTidy after
     → IsSound (with_sessions after state)
 sound_others state after last apart rise given most tidy = record {
-    rise = rise;
-    given = given;
-    last = last;
-    most = most;
-    tidy = tidy;
-    owners = owners_among after state.owned;
-    apart = apart_among after state.owned apart;
-  }
+  rise = rise;
+  given = given;
+  last = last;
+  most = most;
+  tidy = tidy;
+  owners = owners_among after state.owned;
+  apart = apart_among after state.owned apart;
+}
 
 sound_kept : (state : SessionsState) (p : Session → Bool) → IsSound state → IsSound (with_sessions (filter p state.sessions) state)
 sound_kept state p h =
@@ -111,7 +111,7 @@ sound_created state conn uri timeout now h room =
     let left : List Session = with_room state.sessions in
     let rise : RiseAbove 0 (counters left) = rise_room state.sessions (nat_lt (length state.sessions) MOST_SESSIONS) h.rise in
     let given : All (λ counter. counter ≤ state.last_counter) (counters left) =
-        given_room state.last_counter state.sessions (nat_lt (length state.sessions) MOST_SESSIONS) h.given in
+    given_room state.last_counter state.sessions (nat_lt (length state.sessions) MOST_SESSIONS) h.given in
     let most : length left + 1 ≤ MOST_SESSIONS = length_room state.sessions _ refl free.0 h.most in
     let tidy : All IsTidy left = tidy_room state.sessions (nat_lt (length state.sessions) MOST_SESSIONS) h.tidy in
     let last = h.last in
@@ -121,9 +121,9 @@ sound_created state conn uri timeout now h room =
     sound_others (record state { last_counter = state.last_counter + 1 }) (left ++ session ∷ []) more h.apart
     (subst (RiseAbove 0) (sym numbers) (rise_more 0 state.last_counter (counters left) (omega arith) rise given))
     (subst (All (λ counter. counter ≤ state.last_counter + 1)) (sym numbers)
-      (All-push (λ counter. counter ≤ state.last_counter + 1) (counters left) (state.last_counter + 1)
-        (All-weaker (λ counter. counter ≤ state.last_counter) (λ counter. counter ≤ state.last_counter + 1) (λ counter under. omega arith) (counters left) given)
-        (omega arith)))
+    (All-push (λ counter. counter ≤ state.last_counter + 1) (counters left) (state.last_counter + 1)
+    (All-weaker (λ counter. counter ≤ state.last_counter) (λ counter. counter ≤ state.last_counter + 1) (λ counter under. omega arith) (counters left) given)
+    (omega arith)))
     (omega arith)
     (All-push IsTidy left session tidy (tidy_new (state.last_counter + 1) conn uri timeout now))
   where
@@ -151,7 +151,7 @@ unbound_numbers conn session = either (one.is_bound_to conn session) _ _ session
 
 -- an owner is one of the sessions
 sound_owned : (state : SessionsState) (id counter : ℕ) (found : Option Session) → session_at counter state.sessions ≡ found → IsSound state
-    → lives counter state.sessions ≡ true → ownership_of id state.owned ≡ None → IsSound (owned_by id found state)
+    → lives counter state.sessions ≡ true → keeps id state.owned ≡ false → IsSound (owned_by id found state)
 sound_owned state id counter None is h exists fresh = h
 sound_owned state id counter (Some session) is h exists fresh =
     let numbered : session.counter ≡ counter = same_number counter state.sessions session is in
@@ -163,19 +163,19 @@ sound_owned state id counter (Some session) is h exists fresh =
       most = h.most;
       tidy = h.tidy;
       owners = All-push (IsOwned state.sessions) state.owned ownership h.owners (ap (λ n. lives n state.sessions) numbered ∙ exists);
-      apart = apart_more state.owned ownership h.apart fresh;
+      apart = apart_more state.owned ownership h.apart (not_kept id state.owned fresh);
     }
 
 pub sound_start : (boot : ℕ) → IsSound (no_sessions boot)
 sound_start boot = record {
-    rise = tt;
-    given = All-nil (λ counter. counter ≤ 0);
-    last = omega arith;
-    most = omega arith;
-    tidy = All-nil IsTidy;
-    owners = All-nil (IsOwned []);
-    apart = tt;
-  }
+  rise = tt;
+  given = All-nil (λ counter. counter ≤ 0);
+  last = omega arith;
+  most = omega arith;
+  tidy = All-nil IsTidy;
+  owners = All-nil (IsOwned []);
+  apart = tt;
+}
 
 pub sound_step : (call : Call) (state : SessionsState) → IsAllowed call state → IsSound state → IsSound (after_call call state)
 sound_step (Create conn uri timeout now) state allowed h = sound_create state conn uri timeout now _ refl h
@@ -188,26 +188,26 @@ sound_step (Bound token conn now) state allowed h =
 sound_step (Unbind conn) state allowed h =
     sound_changed state (map (one.unbound_from conn) state.sessions) h (counters_map (one.unbound_from conn) state.sessions (unbound_numbers conn))
     (All-map IsTidy (one.unbound_from conn) state.sessions
-      (All-weaker IsTidy (λ session. IsTidy (one.unbound_from conn session)) (tidy_unbound conn) state.sessions h.tidy))
+    (All-weaker IsTidy (λ session. IsTidy (one.unbound_from conn session)) (tidy_unbound conn) state.sessions h.tidy))
 sound_step (Close session) state allowed h = sound_kept state (λ kept. not (is_numbered session kept)) h
 sound_step (Expire now) state allowed h = sound_kept state (lasts_past now) h
 sound_step (Park session publish) state allowed h =
     sound_changed state (at_first (is_numbered session) (one.with_parked publish) state.sessions) h
     (counters_at_first (is_numbered session) (one.with_parked publish) state.sessions (λ _. refl))
     (tidy_first (is_numbered session) (one.with_parked publish) state.sessions h.tidy
-      (λ found is. tidy_parked publish found (bound_found (session_at session state.sessions) found allowed is)))
+    (λ found is. tidy_parked publish found (bound_found (session_at session state.sessions) found allowed is)))
 sound_step (Unpark session) state allowed h =
     sound_first state (is_numbered session) one.without_oldest h (λ _. refl) tidy_unparked
 sound_step (Own id session) state allowed h = sound_owned state id session _ refl h allowed.0 allowed.1
 sound_step (Disown id) state allowed h = record {
-    rise = h.rise;
-    given = h.given;
-    last = h.last;
-    most = h.most;
-    tidy = h.tidy;
-    owners = All-filter (λ ownership. not (ownership.id == id)) (IsOwned state.sessions) state.owned h.owners;
-    apart = apart_part (λ ownership. not (ownership.id == id)) state.owned h.apart;
-  }
+  rise = h.rise;
+  given = h.given;
+  last = h.last;
+  most = h.most;
+  tidy = h.tidy;
+  owners = All-filter (λ ownership. not (ownership.id == id)) (IsOwned state.sessions) state.owned h.owners;
+  apart = apart_part (λ ownership. not (ownership.id == id)) state.owned h.apart;
+}
 
 sound_from : (calls : List Call) (state : SessionsState) → AreAllowed calls state → IsSound state → IsSound (after_calls calls state)
 sound_from [] state allowed h = h

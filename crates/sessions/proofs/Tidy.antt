@@ -52,9 +52,9 @@ is_bound (Some conn) some none = absurd cc
 
 pub tidy_parked : (publish : Parked) (session : Session) → IsSome session.conn → IsTidy session → IsTidy (with_parked publish session)
 tidy_parked publish session some h = record {
-    queued = parked_test publish session.queued _ refl h.queued;
-    bound = λ none. absurd (is_bound session.conn some none);
-  }
+  queued = parked_test publish session.queued _ refl h.queued;
+  bound = λ none. absurd (is_bound session.conn some none);
+}
 
 pub tidy_unparked : (session : Session) → IsTidy session → IsTidy (without_oldest session)
 tidy_unparked session h =
@@ -79,7 +79,7 @@ tidy_first test change (session ∷ sessions) tidy keeps =
     first_test change session sessions (at_first test change sessions) (test session) tidy
     (λ passes. keeps session (ap (λ b. cond b (Some session) (find test sessions)) passes) (All-head IsTidy session sessions tidy))
     (λ fails. tidy_first test change sessions (All-tail IsTidy session sessions tidy)
-      (λ other is. keeps other (ap (λ b. cond b (Some session) (find test sessions)) fails ∙ is)))
+    (λ other is. keeps other (ap (λ b. cond b (Some session) (find test sessions)) fails ∙ is)))
 
 -- one session of a list leaves
 left_test : (session : Session) (sessions left : List Session) (b : Bool) → All IsTidy (session ∷ sessions) → All IsTidy left

@@ -82,7 +82,7 @@ pub stranger : (boot counter : ℕ) (state : SessionsState) → boot < 2 ^ 16 �
 stranger boot counter state first second other =
     find_never (has_token state.boot (Some (token_of boot counter))) state.sessions
     (λ session. never _ (λ same. other (same_boot boot counter state.boot session.counter first second
-      ((bytes_eq-Decides (token_of boot counter) (token_of state.boot session.counter)).0 same))))
+    ((bytes_eq-Decides (token_of boot counter) (token_of state.boot session.counter)).0 same))))
 
 pub wrong_length : (token : List ℕ) (state : SessionsState) → length token ≢ 6 → session_of (Some token) state ≡ None
 wrong_length token state other =

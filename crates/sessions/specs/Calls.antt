@@ -2,7 +2,7 @@
 use Rattle.std.specs.Prelude.{◌≡◌, ℕ, ◌+◌, List, [], ◌∷◌, ◌++◌, Bool, true, false, if◌then◌else◌, Option, Some, None, IsSome}
 use Rattle.sessions.specs.declared.session.Parked.{Parked}
 use Rattle.sessions.specs.State.{SessionsState}
-use Rattle.sessions.specs.Table.{activated, closed, conn_of, created, disowned, expired, is_full, lives, owned, ownership_of, parked, requested, session_at, unbound, unparked}
+use Rattle.sessions.specs.Table.{activated, closed, conn_of, created, disowned, expired, is_full, keeps, lives, owned, parked, requested, session_at, unbound, unparked}
 
 -- one call that changes the sessions, with the arguments that it is given
 pub data Call : Type 0 where
@@ -44,7 +44,7 @@ after_calls (call ∷ calls) state = after_calls calls (after_call call state)
 -- that exists, where nothing is kept of it
 abbrev pub IsAllowed : Call → SessionsState → Type 0
 IsAllowed (Park session publish) state = IsSome (conn_of (session_at session state.sessions))
-IsAllowed (Own id session) state = (lives session state.sessions ≡ true) × (ownership_of id state.owned ≡ None)
+IsAllowed (Own id session) state = (lives session state.sessions ≡ true) × (keeps id state.owned ≡ false)
 IsAllowed call state = Unit {0}
 
 -- each of the calls is one that may be made after those before it

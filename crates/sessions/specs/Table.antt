@@ -149,6 +149,10 @@ conn_of (Some session) = session.conn
 abbrev pub ownership_of : ℕ → List Ownership → Option Ownership
 ownership_of id owned = find (λ ownership. ownership.id == id) owned
 
+-- whether anything is kept of it
+abbrev pub keeps : ℕ → List Ownership → Bool
+keeps id owned = is_some (ownership_of id owned)
+
 abbrev pub owner_of : Option Ownership → Option ℕ
 owner_of None = None
 owner_of (Some ownership) = ownership.owner

@@ -1,12 +1,12 @@
 //! What any calls on a server's sessions come to. Nothing here runs.
-ghost use Rattle.std.specs.Prelude.{◌≡◌, ◌≢◌, ◌<◌, ◌≤◌, ◌+◌, ◌-◌, ◌^◌, ℕ, List, None, Option, Some, length, drop, slice_get, true};
+ghost use Rattle.std.specs.Prelude.{◌≡◌, ◌≢◌, ◌<◌, ◌≤◌, ◌+◌, ◌-◌, ◌^◌, ℕ, List, None, Option, Some, length, drop, slice_get, false, true};
 ghost use Rattle.sessions.specs.declared.ownership.Ownership.{Ownership};
 ghost use Rattle.sessions.specs.declared.session.Parked.{Parked};
 ghost use Rattle.sessions.specs.declared.session.Session.{Session};
 ghost use Rattle.sessions.specs.Calls.{AreAllowed, Call, IsAllowed, after_call, after_calls, counters_given};
 ghost use Rattle.sessions.specs.Sound.{IsSound, RiseAbove};
 ghost use Rattle.sessions.specs.State.{SessionsState};
-ghost use Rattle.sessions.specs.Table.{closed, due_of, expired, no_sessions, owned, ownership_of, session_at, session_of};
+ghost use Rattle.sessions.specs.Table.{closed, due_of, expired, keeps, no_sessions, owned, ownership_of, session_at, session_of};
 ghost use Rattle.sessions.specs.Token.{token_of};
 
 /// After any calls no two sessions have one counter, at most `MOST_SESSIONS` exist, at most `MOST_QUEUED` Publishes of
@@ -45,7 +45,7 @@ pub fn sessions_expire_when_due()
 /// A session that is given a subscription owns it. Once it is closed the subscription has no owner, and the
 /// ApplicationUri of the last one is known.
 pub fn owners_leave()
-    ensures owns { (id counter : ℕ) (session : Session) (state : SessionsState) → ownership_of id state.owned ≡ None
+    ensures owns { (id counter : ℕ) (session : Session) (state : SessionsState) → keeps id state.owned ≡ false
         → session_at counter state.sessions ≡ Some session
         → ownership_of id (owned id counter state).owned ≡ Some (record { id = id; owner = Some counter; uri = session.uri }) }
     ensures leaves { (id counter : ℕ) (ownership : Ownership) (state : SessionsState) → ownership_of id state.owned ≡ Some ownership

@@ -6,6 +6,8 @@ mod laws;
 mod ownership;
 mod session;
 mod table;
+#[cfg(test)]
+mod tests;
 mod tokens;
 
 pub use fault::SessionFault;

@@ -1,7 +1,7 @@
 ghost use Rattle.std.specs.Prelude.{◌≡◌, ◌≢◌, ◌≤◌, ◌<◌, ◌+◌, [], ◌∷◌, ◌++◌, false, true, not, None, length, position, filter, OnOk, OnErr, IfOk, IfErr, IfSome, map};
 ghost use Rattle.ua_base.specs.declared.status.TheConstants.{BAD_TOO_MANY_SESSIONS};
 ghost use Rattle.sessions.specs.Session.{has_token, is_numbered, is_unbound, lasts_past, unbound_from};
-ghost use Rattle.sessions.specs.Table.{activate_answer, activated, are_bound, bound_answer, check_answer, closed, conn_of, created, disowned, driven_out_of, due_of, expired, is_full, lives, no_sessions, oldest_of, owned, owner_of, ownership_of, parked, place_to_leave, requested, session_at, unbound, unparked, waits, with_room, without_id};
+ghost use Rattle.sessions.specs.Table.{activate_answer, activated, are_bound, bound_answer, check_answer, closed, conn_of, created, disowned, driven_out_of, due_of, expired, is_full, keeps, lives, no_sessions, oldest_of, owned, owner_of, ownership_of, parked, place_to_leave, requested, session_at, unbound, unparked, waits, with_room, without_id};
 
 use crate::fault::SessionFault;
 use crate::ownership::{Ownership, copy_text, keep_owners_among, ownership_of};
@@ -147,6 +147,19 @@ impl Sessions {
         }
     }
 
+    /// A server that gave so many sessions before, all of which are no more.
+    #[cfg(test)]
+    pub fn after(alloc: Global, boot: u16, last_counter: u32) -> Sessions
+        ensures { result ≡ record (no_sessions boot) { last_counter = last_counter } }
+    {
+        Sessions {
+            boot,
+            last_counter,
+            sessions: Vec::new(alloc),
+            owned: Vec::new(alloc),
+        }
+    }
+
     fn is_full(&self) -> bool
         ensures { result ≡ is_full self.now }
     {
@@ -278,7 +291,7 @@ impl Sessions {
     /// when the session is no more.
     pub fn own(&mut self, alloc: Global, id: u32, session: u32) -> Result<(), OutOfMemory>
         requires exists { lives session self.old.sessions ≡ true }
-        requires fresh { ownership_of id self.old.owned ≡ None }
+        requires fresh { keeps id self.old.owned ≡ false }
         ensures after { OnOk result (self.new ≡ owned id session self.old) }
         ensures unchanged { OnErr result (self.new ≡ self.old) }
     {
@@ -295,6 +308,13 @@ impl Sessions {
         ensures { self.new ≡ disowned id self.old }
     {
         drop_ownership(&mut self.owned, id);
+    }
+
+    /// Whether anything is kept of a subscription: a session owned it, and it was not disowned since.
+    pub fn keeps(&self, id: u32) -> bool
+        ensures { result ≡ keeps id self.now.owned }
+    {
+        ownership_of(&self.owned, id).is_some()
     }
 
     /// The session that owns a subscription, if one exists.
