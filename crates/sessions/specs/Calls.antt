@@ -1,6 +1,8 @@
 -- What any calls come to.
-use Rattle.std.specs.Prelude.{◌≡◌, ℕ, ◌+◌, List, [], ◌∷◌, ◌++◌, Bool, true, false, if◌then◌else◌, Option, Some, None, IsSome}
+use Rattle.std.specs.Prelude.{◌≡◌, ℕ, ◌+◌, ◌-◌, length, drop, List, [], ◌∷◌, ◌++◌, Bool, true, false, if◌then◌else◌, Option, Some, None, IsSome}
 use Rattle.sessions.specs.declared.session.Parked.{Parked}
+use Rattle.sessions.specs.declared.session.TheConstants.{MOST_QUEUED}
+use Rattle.sessions.specs.Session.{with_publish}
 use Rattle.sessions.specs.State.{SessionsState}
 use Rattle.sessions.specs.Table.{activated, closed, conn_of, created, disowned, expired, is_full, keeps, lives, owned, parked, requested, session_at, unbound, unparked}
 
@@ -65,3 +67,12 @@ given_by call state = []
 abbrev pub counters_given : List Call → SessionsState → List ℕ
 counters_given [] state = []
 counters_given (call ∷ calls) state = given_by call state ++ counters_given calls (after_call call state)
+
+-- a session's queue after these Publishes came, one after the other
+abbrev pub with_publishes : List Parked → List Parked → List Parked
+with_publishes [] queued = queued
+with_publishes (publish ∷ publishes) queued = with_publishes publishes (with_publish publish queued)
+
+-- the last Publishes, as many as are queued
+abbrev pub last_publishes : List Parked → List Parked
+last_publishes publishes = drop (length publishes - MOST_QUEUED) publishes

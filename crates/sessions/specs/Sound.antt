@@ -1,11 +1,12 @@
 -- What always holds of a server's sessions, whatever calls were made.
-use Rattle.std.specs.Prelude.{◌≡◌, ℕ, ◌<◌, ◌≤◌, ◌^◌, List, [], ◌∷◌, length, map, All, Option, None, IfSome, true}
+use Rattle.std.specs.Prelude.{◌≡◌, ℕ, ◌<◌, ◌≤◌, ◌^◌, List, [], ◌∷◌, length, map, All, Option, None, Some, IfSome, true}
 use Rattle.sessions.specs.declared.ownership.Ownership.{Ownership}
 use Rattle.sessions.specs.declared.session.Session.{Session}
 use Rattle.sessions.specs.declared.session.TheConstants.{MOST_QUEUED}
 use Rattle.sessions.specs.declared.table.TheConstants.{MOST_SESSIONS}
+use Rattle.sessions.specs.Session.{is_unbound}
 use Rattle.sessions.specs.State.{SessionsState}
-use Rattle.sessions.specs.Table.{lives, ownership_of}
+use Rattle.sessions.specs.Table.{lives, ownership_of, session_at}
 
 -- numbers that rise, each above this one
 abbrev pub RiseAbove : ℕ → List ℕ → Type 0
@@ -38,3 +39,8 @@ pub record IsSound (state : SessionsState) : Type 0 where
   pub tidy : All IsTidy state.sessions
   pub owners : All (IsOwned state.sessions) state.owned
   pub apart : AreApart state.owned
+
+-- the session of this counter is unbound, and no other unbound one has a lower counter
+pub record IsOldestUnbound (counter : ℕ) (session : Session) (sessions : List Session) : Type 0 where
+  pub unbound : is_unbound session ≡ true
+  pub oldest : (other : ℕ) (another : Session) → session_at other sessions ≡ Some another → is_unbound another ≡ true → counter ≤ other

@@ -1,12 +1,13 @@
 //! What any calls on a server's sessions come to. Nothing here runs.
-ghost use Rattle.std.specs.Prelude.{◌≡◌, ◌≢◌, ◌<◌, ◌≤◌, ◌+◌, ◌-◌, ◌^◌, ℕ, List, None, Option, Some, length, drop, slice_get, false, true};
+ghost use Rattle.std.specs.Prelude.{◌≡◌, ◌≢◌, ◌<◌, ◌≤◌, ◌+◌, ◌-◌, ◌^◌, ℕ, List, [], None, Option, Some, length, drop, slice_get, false, true};
 ghost use Rattle.sessions.specs.declared.ownership.Ownership.{Ownership};
 ghost use Rattle.sessions.specs.declared.session.Parked.{Parked};
 ghost use Rattle.sessions.specs.declared.session.Session.{Session};
-ghost use Rattle.sessions.specs.Calls.{AreAllowed, Call, IsAllowed, after_call, after_calls, counters_given};
-ghost use Rattle.sessions.specs.Sound.{IsSound, RiseAbove};
+ghost use Rattle.sessions.specs.Calls.{AreAllowed, Call, IsAllowed, after_call, after_calls, counters_given, last_publishes, with_publishes};
+ghost use Rattle.sessions.specs.Session.{is_unbound};
+ghost use Rattle.sessions.specs.Sound.{IsOldestUnbound, IsSound, RiseAbove};
 ghost use Rattle.sessions.specs.State.{SessionsState};
-ghost use Rattle.sessions.specs.Table.{closed, due_of, expired, keeps, no_sessions, owned, ownership_of, session_at, session_of};
+ghost use Rattle.sessions.specs.Table.{closed, created, due_of, expired, keeps, lives, no_sessions, owned, ownership_of, session_at, session_of};
 ghost use Rattle.sessions.specs.Token.{token_of};
 
 /// After any calls no two sessions have one counter, at most `MOST_SESSIONS` exist, at most `MOST_QUEUED` Publishes of
@@ -51,4 +52,19 @@ pub fn owners_leave()
     ensures leaves { (id counter : ℕ) (ownership : Ownership) (state : SessionsState) → ownership_of id state.owned ≡ Some ownership
         → ownership.owner ≡ Some counter
         → ownership_of id (closed counter state).owned ≡ Some (record ownership { owner = None }) }
+{}
+
+/// A session that is made drives out none that is bound, and of the others the one of lowest counter.
+pub fn oldest_unbound_leaves()
+    ensures stays { (counter conn : ℕ) (uri : Option (List ℕ)) (timeout now : ℕ) (session : Session) (state : SessionsState)
+        → session_at counter state.sessions ≡ Some session → is_unbound session ≡ false
+        → session_at counter (created conn uri timeout now state).sessions ≡ Some session }
+    ensures oldest { (counter conn : ℕ) (uri : Option (List ℕ)) (timeout now : ℕ) (session : Session) (state : SessionsState) → IsSound state
+        → session_at counter state.sessions ≡ Some session → lives counter (created conn uri timeout now state).sessions ≡ false
+        → IsOldestUnbound counter session state.sessions }
+{}
+
+/// Of the Publishes that came the last `MOST_QUEUED` are queued, in the order in which they came.
+pub fn last_publishes_wait()
+    ensures { (publishes : List Parked) → with_publishes publishes [] ≡ last_publishes publishes }
 {}

@@ -12,7 +12,8 @@ mod tokens;
 
 pub use fault::SessionFault;
 pub use laws::{
-    counters_rise, owners_leave, sessions_expire_when_due, stay_sound, tokens_tell_apart,
+    counters_rise, last_publishes_wait, oldest_unbound_leaves, owners_leave,
+    sessions_expire_when_due, stay_sound, tokens_tell_apart,
 };
 pub use session::{MOST_QUEUED, Parked};
 pub use table::{MOST_SESSIONS, Sessions};
