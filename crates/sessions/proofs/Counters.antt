@@ -1,14 +1,13 @@
 -- The counters of the sessions, and of those that calls give.
-use Rattle.std.proofs.Common.{◌≡◌, ℕ, zero, suc, ◌+◌, ◌-◌, ◌<◌, ◌≤◌, ◌^◌, List, [], ◌∷◌, ◌++◌, Bool, true, false, cond, ◌||◌, length, refl, sym, ◌∙◌, ap, ap₂, arith}
-use Rattle.std.specs.List.{All, filter, list_any, find}
+use Rattle.std.proofs.Common.{◌≡◌, ℕ, ◌+◌, ◌<◌, ◌≤◌, List, [], ◌∷◌, ◌++◌, Bool, true, false, cond, ◌||◌, refl, ap, ap₂, arith}
+use Rattle.std.specs.List.{All, filter, list_any}
 use Rattle.std.specs.Prelude.{map, ◌==◌, is_some, Option, Some, None}
-use Rattle.std.proofs.lemmas.List.Elements.{All-head, All-tail, All-cons, All-nil}
+use Rattle.std.proofs.lemmas.List.Elements.{All-head, All-tail, All-cons}
 use Rattle.sessions.specs.declared.session.Session.{Session}
-use Rattle.sessions.specs.Session.{is_numbered}
 use Rattle.sessions.specs.Calls.{Call, Create, Activate, Check, Bound, Unbind, Close, Expire, Park, Unpark, Own, Disown, after_call, after_create, counters_given, given_by_create}
 use Rattle.sessions.specs.Sound.{RiseAbove, counters}
 use Rattle.sessions.specs.State.{SessionsState}
-use Rattle.sessions.specs.Table.{at_first, is_full, lives, no_sessions, owned_by, session_at, without_first}
+use Rattle.sessions.specs.Table.{at_first, is_full, lives, owned_by, session_at, without_first}
 
 -- what changes a session and leaves its counter
 abbrev pub Numbers : (Session → Session) → Type 0

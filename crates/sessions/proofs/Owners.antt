@@ -1,16 +1,16 @@
 -- What is kept of the owners.
-use Rattle.std.proofs.Common.{◌≡◌, ℕ, ◌+◌, List, [], ◌∷◌, ◌++◌, Bool, true, false, cond, not, Option, Some, None, refl, sym, ◌∙◌, ap, ap₂, arith}
-use Rattle.std.specs.List.{All, filter, find}
+use Rattle.std.proofs.Common.{◌≡◌, ℕ, List, [], ◌∷◌, ◌++◌, Bool, true, false, cond, not, Option, Some, None, refl, sym, ◌∙◌, ap, arith}
+use Rattle.std.specs.List.{All, filter}
 use Rattle.std.specs.Prelude.{map, ◌==◌, IfSome, is_some}
 use Rattle.std.specs.Option.{option_or}
 use Rattle.std.proofs.lemmas.Bool.Decides.{nat_tests, Decides-eqb}
-use Rattle.std.proofs.lemmas.List.Elements.{All-map, All-weaker, All-from_recursion}
+use Rattle.std.proofs.lemmas.List.Elements.{All-map, All-weaker}
 use Rattle.std.proofs.lemmas.List.Folds.{find-append}
 use Rattle.sessions.specs.declared.ownership.Ownership.{Ownership}
 use Rattle.sessions.specs.declared.session.Session.{Session}
 use Rattle.sessions.specs.Session.{is_numbered}
 use Rattle.sessions.specs.Sound.{AreApart, IsOwned}
-use Rattle.sessions.specs.Table.{closed, keeps, lives, owned, owned_among, owned_by, owner_among, ownership_of, session_at, without_id}
+use Rattle.sessions.specs.Table.{closed, keeps, lives, owned, owned_among, owned_by, owner_among, ownership_of, session_at}
 use Rattle.sessions.specs.State.{SessionsState}
 
 -- an owner that is kept exists

@@ -1,10 +1,10 @@
 -- What always holds holds after each call.
-use Rattle.std.proofs.Common.{◌≡◌, ◌≢◌, ℕ, ◌+◌, ◌-◌, ◌<◌, ◌≤◌, ◌^◌, List, [], ◌∷◌, ◌++◌, Bool, true, false, cond, not, ◌&&◌, ◌||◌, ◌==◌, nat_lt, Option, Some, None, length, refl, sym, ◌∙◌, ap, ap₂, subst, arith, length-append, suc}
-use Rattle.std.specs.List.{All, filter, list_any, list_all}
+use Rattle.std.proofs.Common.{◌≡◌, ℕ, ◌+◌, ◌-◌, ◌<◌, ◌≤◌, ◌^◌, List, [], ◌∷◌, ◌++◌, Bool, true, false, cond, not, ◌&&◌, ◌||◌, ◌==◌, nat_lt, Option, Some, None, length, refl, sym, ◌∙◌, ap, subst, arith, length-append, suc}
+use Rattle.std.specs.List.{All, filter, list_any}
 use Rattle.std.specs.Prelude.{map}
 use Rattle.std.proofs.lemmas.Bool.Decides.{nat_tests}
 use Rattle.std.proofs.lemmas.List.{length-map, map-append}
-use Rattle.std.proofs.lemmas.List.Elements.{All-append, All-cons, All-filter, All-head, All-map, All-nil, All-push, All-tail, All-weaker}
+use Rattle.std.proofs.lemmas.List.Elements.{All-filter, All-map, All-nil, All-push, All-weaker}
 use Rattle.sessions.specs.declared.ownership.Ownership.{Ownership}
 use Rattle.sessions.specs.declared.session.Session.{Session}
 use Rattle.sessions.specs.declared.table.TheConstants.{MOST_SESSIONS}
@@ -13,7 +13,7 @@ use Rattle.sessions.specs.Session as one
 use Rattle.sessions.specs.Session.{has_token, is_numbered, is_unbound, lasts_past, new_session}
 use Rattle.sessions.specs.Sound.{AreApart, IsOwned, IsSound, IsTidy, RiseAbove, counters}
 use Rattle.sessions.specs.State.{SessionsState}
-use Rattle.sessions.specs.Table.{are_bound, at_first, created, is_full, keeps, lives, no_sessions, owned, owned_by, ownership_of, session_at, with_room, with_sessions, without_first, without_id}
+use Rattle.sessions.specs.Table.{are_bound, at_first, created, is_full, keeps, lives, no_sessions, owned_by, session_at, with_room, with_sessions, without_first}
 use Rattle.sessions.proofs.Counters.{Numbers, counters_at_first, counters_map, given_kept, given_without, lives_by_counter, rise_kept, rise_more, rise_without}
 use Rattle.sessions.proofs.Moments.{length_kept}
 use Rattle.sessions.proofs.Owners.{apart_among, apart_more, apart_part, not_kept, owners_among, owners_stay, same_number}

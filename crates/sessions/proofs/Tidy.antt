@@ -1,13 +1,13 @@
 -- Each change leaves a session with at most so many queued Publishes, and with none where it is unbound.
-use Rattle.std.proofs.Common.{◌≡◌, ℕ, ◌+◌, ◌-◌, ◌<◌, ◌≤◌, List, [], ◌∷◌, ◌++◌, Bool, true, false, cond, nat_lt, Option, Some, None, length, drop, refl, sym, ◌∙◌, ap, subst, arith, length-append, length-drop}
-use Rattle.std.specs.List.{All, filter, find}
+use Rattle.std.proofs.Common.{◌≡◌, ℕ, ◌<◌, ◌≤◌, List, [], ◌∷◌, ◌++◌, Bool, true, false, cond, nat_lt, Option, Some, None, length, drop, refl, ◌∙◌, ap, subst, arith, length-append, length-drop}
+use Rattle.std.specs.List.{All, find}
 use Rattle.std.specs.Prelude.{IsSome}
 use Rattle.std.proofs.lemmas.Bool.Decides.{nat_tests}
-use Rattle.std.proofs.lemmas.List.Elements.{All-head, All-tail, All-cons, All-nil}
+use Rattle.std.proofs.lemmas.List.Elements.{All-head, All-tail, All-cons}
 use Rattle.sessions.specs.declared.session.Parked.{Parked}
 use Rattle.sessions.specs.declared.session.Session.{Session}
 use Rattle.sessions.specs.declared.session.TheConstants.{MOST_QUEUED}
-use Rattle.sessions.specs.Session.{activated, activated_on, is_bound_to, may_activate, new_session, queued_on, requested, unbound, unbound_from, with_parked, with_publish, without_oldest}
+use Rattle.sessions.specs.Session.{activated, activated_on, is_bound_to, may_activate, new_session, requested, unbound, unbound_from, with_parked, without_oldest}
 use Rattle.sessions.specs.Sound.{IsTidy}
 use Rattle.sessions.specs.Table.{at_first, conn_of, without_first}
 

@@ -1,11 +1,10 @@
 -- Which Publishes are queued after several came.
-use Rattle.std.proofs.Common.{◌≡◌, ℕ, ◌+◌, ◌-◌, ◌<◌, ◌≤◌, List, [], ◌∷◌, ◌++◌, Bool, true, false, cond, nat_lt, length, drop, refl, sym, ◌∙◌, ap, ap₂, append_assoc, arith, length-append, length-drop}
+use Rattle.std.proofs.Common.{◌≡◌, ◌+◌, ◌-◌, ◌<◌, ◌≤◌, List, [], ◌∷◌, ◌++◌, Bool, true, false, cond, nat_lt, length, drop, refl, sym, ◌∙◌, ap, append_assoc, arith, length-append, length-drop}
 use Rattle.std.proofs.lemmas.Bool.Decides.{nat_tests}
 use Rattle.std.proofs.lemmas.List.{append-nil, drop-append-le, drop-drop}
 use Rattle.sessions.specs.declared.session.Parked.{Parked}
 use Rattle.sessions.specs.declared.session.TheConstants.{MOST_QUEUED}
 use Rattle.sessions.specs.Calls.{last_publishes, with_publishes}
-use Rattle.sessions.specs.Session.{with_publish}
 
 one_step : (publish : Parked) (before : List Parked) (room : Bool) → nat_lt (length (last_publishes before)) MOST_QUEUED ≡ room
     → cond room (last_publishes before ++ publish ∷ []) (drop 1 (last_publishes before) ++ publish ∷ []) ≡ last_publishes (before ++ publish ∷ [])

@@ -1,5 +1,5 @@
 -- What any calls come to.
-use Rattle.std.specs.Prelude.{◌≡◌, ℕ, ◌+◌, ◌-◌, length, drop, List, [], ◌∷◌, ◌++◌, Bool, true, false, if◌then◌else◌, Option, Some, None, IsSome}
+use Rattle.std.specs.Prelude.{◌≡◌, ℕ, ◌+◌, ◌-◌, length, drop, List, [], ◌∷◌, ◌++◌, Bool, true, false, Option, IsSome}
 use Rattle.sessions.specs.declared.session.Parked.{Parked}
 use Rattle.sessions.specs.declared.session.TheConstants.{MOST_QUEUED}
 use Rattle.sessions.specs.Session.{with_publish}

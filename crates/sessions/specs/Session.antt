@@ -1,6 +1,6 @@
 -- One session, and what each call does to it (OPC 10000-4, 5.6 and 5.13.5).
-use Rattle.std.specs.Prelude.{ℕ, ◌+◌, ◌-◌, ◌==◌, ◌&&◌, ◌||◌, not, nat_le, nat_lt, length, drop, List, [], ◌∷◌, ◌++◌, Bool, true, false, if◌then◌else◌, Option, Some, None, Result, Ok, Err, slice_get}
-use Rattle.ua_base.specs.declared.status.TheConstants.{BAD_SECURE_CHANNEL_ID_INVALID, BAD_SESSION_ID_INVALID, BAD_SESSION_NOT_ACTIVATED}
+use Rattle.std.specs.Prelude.{ℕ, ◌+◌, ◌==◌, ◌||◌, not, nat_lt, length, drop, List, [], ◌∷◌, ◌++◌, Bool, true, false, if◌then◌else◌, Option, Some, None, Result, Ok, Err, slice_get}
+use Rattle.ua_base.specs.declared.status.TheConstants.{BAD_SECURE_CHANNEL_ID_INVALID, BAD_SESSION_NOT_ACTIVATED}
 use Rattle.sessions.specs.declared.fault.SessionFault.{SessionFault}
 use Rattle.sessions.specs.declared.fault.SessionFault.TheVariants.{Code}
 use Rattle.sessions.specs.declared.session.Parked.{Parked}

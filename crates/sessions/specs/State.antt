@@ -1,5 +1,5 @@
 -- What a contract sees of the sessions of a server.
-use Rattle.std.specs.Prelude.{ℕ, List, Option}
+use Rattle.std.specs.Prelude.{ℕ, List}
 use Rattle.sessions.specs.declared.session.Session.{Session}
 use Rattle.sessions.specs.declared.ownership.Ownership.{Ownership}
 

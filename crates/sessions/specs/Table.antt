@@ -1,5 +1,5 @@
 -- What each call does to the sessions of a server.
-use Rattle.std.specs.Prelude.{ℕ, ◌+◌, ◌-◌, ◌^◌, ◌==◌, ◌&&◌, ◌||◌, not, nat_le, nat_lt, min, length, List, [], ◌∷◌, ◌++◌, Bool, true, false, if◌then◌else◌, Option, Some, None, is_some, Result, Ok, Err, slice_get, find, position, filter, map}
+use Rattle.std.specs.Prelude.{ℕ, ◌+◌, ◌-◌, ◌^◌, ◌==◌, ◌&&◌, ◌||◌, not, nat_lt, min, length, List, [], ◌∷◌, ◌++◌, Bool, false, if◌then◌else◌, Option, Some, None, is_some, Result, Err, slice_get, find, position, filter, map}
 use Rattle.std.specs.List.{list_all}
 use Rattle.ua_base.specs.declared.status.TheConstants.{BAD_SESSION_ID_INVALID}
 use Rattle.sessions.specs.declared.fault.SessionFault.{SessionFault}

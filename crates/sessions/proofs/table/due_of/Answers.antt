@@ -1,4 +1,4 @@
-use Rattle.std.proofs.Common.{◌≡◌, ◌+◌, ◌<◌, ◌≤◌, List, [], ap, arith, drop, length, min}
+use Rattle.std.proofs.Common.{◌≡◌, ◌+◌, [], ap, arith, drop}
 use Rattle.std.proofs.lemmas.List.{drop_all}
 use Rattle.sessions.specs.Table.{due_of}
 use Rattle.sessions.proofs.Moments.{due_most, due_more}

@@ -1,4 +1,4 @@
-use Rattle.std.proofs.Common.{◌≡◌, ◌∷◌, [], ◌++◌, ◌∙◌, sym, ap}
+use Rattle.std.proofs.Common.{◌∷◌, [], ◌++◌, ◌∙◌, sym, ap}
 use Rattle.std.specs.List.{remove}
 use Rattle.sessions.proofs.Firsts.{gives_room, has_room}
 use Rattle.sessions.proofs.table.give.Goals as goal

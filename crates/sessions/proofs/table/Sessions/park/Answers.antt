@@ -1,9 +1,5 @@
-use Rattle.std.proofs.Common.{◌≡◌, ◌∙◌, sym, ap, refl, Option, set}
+use Rattle.std.proofs.Common.{refl}
 use Rattle.std.proofs.lemmas.Result.{on_ok_weaker}
-use Rattle.sessions.specs.declared.session.Parked.{Parked}
-use Rattle.sessions.specs.State.{SessionsState}
-use Rattle.sessions.specs.Session as one
-use Rattle.sessions.specs.Table.{driven_out_of, with_change_at}
 use Rattle.sessions.proofs.Firsts.{first_of, none_of}
 use Rattle.sessions.proofs.table.Sessions.park.Goals as goal
 
