@@ -1,4 +1,4 @@
--- What each call does to the sessions of a server.
+-- What each call does to the sessions of a server (sections are of OPC 10000-4).
 use Rattle.std.specs.Prelude.{ℕ, ◌+◌, ◌-◌, ◌^◌, ◌==◌, ◌&&◌, ◌||◌, not, nat_lt, min, length, List, [], ◌∷◌, ◌++◌, Bool, false, if◌then◌else◌, Option, Some, None, is_some, Result, Err, slice_get, find, position, filter, map}
 use Rattle.std.specs.List.{list_all}
 use Rattle.ua_base.specs.declared.status.TheConstants.{BAD_SESSION_ID_INVALID}
@@ -59,6 +59,7 @@ abbrev pub without_first : (Session → Bool) → List Session → List Session
 without_first test [] = []
 without_first test (session ∷ sessions) = if test session then sessions else session ∷ without_first test sessions
 
+-- whether each is bound to a connection
 abbrev pub are_bound : List Session → Bool
 are_bound sessions = list_all (λ session. not (is_unbound session)) sessions
 
@@ -80,6 +81,7 @@ created conn uri timeout now state =
     with_sessions (with_room state.sessions ++ new_session (state.last_counter + 1) conn uri timeout now ∷ [])
     (record state { last_counter = state.last_counter + 1 })
 
+-- an unknown token is told so, and else the session whose token it is answers
 abbrev pub answer_of : {E : Type 0} → E → (Session → Result ℕ E) → Option Session → Result ℕ E
 answer_of unknown answer None = Err unknown
 answer_of unknown answer (Some session) = answer session
@@ -99,6 +101,7 @@ check_answer token conn state = answer_of BAD_SESSION_ID_INVALID (one.check_answ
 abbrev pub bound_answer : Option (List ℕ) → ℕ → SessionsState → Result ℕ ℕ
 bound_answer token conn state = answer_of BAD_SESSION_ID_INVALID (one.bound_answer conn) (session_of token state)
 
+-- a request that passes as far as the connection is the session's last one, even where the session is not activated
 abbrev pub requested : Option (List ℕ) → ℕ → ℕ → SessionsState → SessionsState
 requested token conn now state = with_change_of token (one.requested conn now) state
 
@@ -110,11 +113,11 @@ unbound conn state = record state { sessions = map (one.unbound_from conn) state
 abbrev pub closed : ℕ → SessionsState → SessionsState
 closed counter state = with_sessions (filter (λ session. not (is_numbered counter session)) state.sessions) state
 
--- the sessions whose moment came go
+-- the sessions whose moment came go; a moment past the last age is above every age, and never comes
 abbrev pub expired : ℕ → SessionsState → SessionsState
 expired now state = with_sessions (filter (one.lasts_past now) state.sessions) state
 
--- the earliest moment at which a session expires, as far as ages go
+-- the earliest moment at which a session expires; the last age where none does before it
 abbrev pub due_of : List Session → ℕ
 due_of [] = 2 ^ 64 - 1
 due_of (session ∷ sessions) = min (one.moment session) (due_of sessions)
@@ -123,6 +126,7 @@ due_of (session ∷ sessions) = min (one.moment session) (due_of sessions)
 abbrev pub parked : ℕ → Parked → SessionsState → SessionsState
 parked counter publish state = with_change_at counter (one.with_parked publish) state
 
+-- what one Publish more drives out of its queue: none, unless the most were queued
 abbrev pub driven_out_of : Option Session → Option Parked
 driven_out_of None = None
 driven_out_of (Some session) = one.driven_out session.queued

@@ -1,4 +1,5 @@
-//! The sessions of a server: their tokens, their connections, their queued Publishes and the subscriptions that they own.
+//! The sessions of a server (OPC 10000-4, 5.6): their tokens and connections, their queued Publishes, and the
+//! subscriptions that they own.
 #![tactic(auto)]
 
 mod fault;

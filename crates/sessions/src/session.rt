@@ -1,6 +1,6 @@
-ghost use Rattle.std.specs.Prelude.{◌≡◌, ◌==◌, [], ◌∷◌, ◌++◌, drop, length, find, OnOk, OnErr, IfOk, slice_get};
+ghost use Rattle.std.specs.Prelude.{◌≡◌, ◌==◌, [], drop, length, find, OnOk, OnErr, IfOk, slice_get};
 ghost use Rattle.std.specs.Option.{option_copied};
-ghost use Rattle.sessions.specs.Session.{activate_answer, activated, bound_answer, check_answer, driven_out, has_token, is_bound_to, is_numbered, is_unbound, lasts_past, may_activate, new_session, requested, unbound_from, waits, with_parked, with_publish, without_oldest};
+ghost use Rattle.sessions.specs.Session.{activate_answer, activated, bound_answer, check_answer, driven_out, has_token, is_bound_to, is_unbound, lasts_past, may_activate, new_session, requested, unbound_from, waits, with_parked, with_publish, without_oldest};
 ghost use Rattle.sessions.specs.Table.{session_at};
 
 use crate::fault::SessionFault;
@@ -90,12 +90,19 @@ impl Queue {
 /// One session (OPC 10000-4, 5.6.2).
 #[derive(Debug, Drop)]
 pub struct Session {
+    /// Its number in the server's life, from 1.
     pub counter: u32,
+    /// The connection to which it is bound, if it is bound.
     pub conn: Option<u32>,
+    /// Whether it ever was activated.
     pub activated: bool,
+    /// The client's ApplicationUri.
     pub uri: UaText,
+    /// In milliseconds.
     pub timeout: u32,
+    /// The server's age at its last request, in milliseconds.
     pub last: u64,
+    /// Its queued Publishes.
     pub queued: Queue,
 }
 

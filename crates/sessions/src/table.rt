@@ -1,4 +1,4 @@
-ghost use Rattle.std.specs.Prelude.{◌≡◌, ◌≢◌, ◌≤◌, ◌<◌, ◌+◌, [], ◌∷◌, ◌++◌, false, true, not, None, length, position, filter, OnOk, OnErr, IfOk, IfErr, IfSome, map};
+ghost use Rattle.std.specs.Prelude.{◌≡◌, ◌≢◌, ◌<◌, ◌+◌, [], ◌∷◌, ◌++◌, false, true, not, None, length, position, filter, OnOk, OnErr, IfOk, IfErr, IfSome, map};
 ghost use Rattle.ua_base.specs.declared.status.TheConstants.{BAD_TOO_MANY_SESSIONS};
 ghost use Rattle.sessions.specs.Session.{has_token, is_numbered, is_unbound, lasts_past, unbound_from};
 ghost use Rattle.sessions.specs.Table.{activate_answer, activated, are_bound, bound_answer, check_answer, closed, conn_of, created, disowned, driven_out_of, due_of, expired, is_full, keeps, lives, no_sessions, oldest_of, owned, owner_of, ownership_of, parked, place_to_leave, requested, session_at, unbound, unparked, waits, with_room, without_id};
@@ -131,7 +131,12 @@ impl Model for Sessions {
 
     ghost Value = { SessionsState };
 
-    ghost view = { λ s. record { boot = s.boot; last_counter = s.last_counter; sessions = s.sessions.items; owned = s.owned.items } };
+    ghost view = { λ s. record {
+      boot = s.boot;
+      last_counter = s.last_counter;
+      sessions = s.sessions.items;
+      owned = s.owned.items;
+    } };
 }
 
 impl Sessions {
@@ -168,8 +173,9 @@ impl Sessions {
     }
 
     /// Makes a session, bound to this connection (OPC 10000-4, 5.6.2), and answers its counter: the first has 1. The
-    /// timeout and the server's age `now` are in milliseconds. With `MOST_SESSIONS` the oldest one that is bound to no
-    /// connection is removed for it.
+    /// timeout and the server's age `now` are in milliseconds, the uri is the client's ApplicationUri. Where
+    /// `MOST_SESSIONS` exist the oldest one that is bound to no connection is removed for it, and where none is,
+    /// or no counter is left, the answer is `Bad_TooManySessions`.
     pub fn create(
         &mut self,
         alloc: Global,
@@ -181,7 +187,8 @@ impl Sessions {
         ensures after { OnOk result (self.new ≡ created conn uri timeout now self.old) }
         ensures counter { IfOk result (λ counter. counter ≡ self.old.last_counter + 1) }
         ensures allowed { OnOk result (is_full self.old ≡ false) }
-        ensures refused { IfErr result (λ fault. fault ≢ SessionFault.OutOfMemory → (fault ≡ SessionFault.Code BAD_TOO_MANY_SESSIONS) × (is_full self.old ≡ true)) }
+        ensures refused { IfErr result (λ fault. fault ≢ SessionFault.OutOfMemory
+            → (fault ≡ SessionFault.Code BAD_TOO_MANY_SESSIONS) × (is_full self.old ≡ true)) }
         ensures unchanged { OnErr result (self.new ≡ self.old) }
     {
         if self.is_full() {
@@ -195,7 +202,8 @@ impl Sessions {
         Ok(counter)
     }
 
-    /// Binds the session of this token to a connection, activates it (OPC 10000-4, 5.6.3) and answers its counter.
+    /// Binds the session of this token to a connection, activates it (OPC 10000-4, 5.6.3) and answers its counter. What
+    /// it had queued on another connection is dropped.
     pub fn activate(&mut self, token: &UaBytes, conn: u32, now: u64) -> Result<u32, SessionFault>
         ensures answer { result ≡ activate_answer token.now conn self.old }
         ensures after { self.new ≡ activated token.now conn now self.old }
@@ -230,14 +238,15 @@ impl Sessions {
         }
     }
 
-    /// Leaves all sessions of a connection that ended without one. Their queued Publishes are dropped.
+    /// Unbinds all sessions of a connection, as when it ended. Their queued Publishes are dropped.
     pub fn unbind(&mut self, conn: u32)
         ensures { self.new ≡ unbound conn self.old }
     {
         unbind_all(&mut self.sessions, conn);
     }
 
-    /// Removes a session (OPC 10000-4, 5.6.4), if it exists.
+    /// Removes a session (OPC 10000-4, 5.6.4), if it exists. What it owned has no owner then. Its queued Publishes are
+    /// dropped: one that is to be answered is taken out by `unpark` before.
     pub fn close(&mut self, session: u32)
         ensures { self.new ≡ closed session self.old }
     {
