@@ -1,0 +1,5 @@
+pub mod Kinds
+pub mod Grammar
+pub mod Reader
+pub mod Spelling
+pub mod Keeps
