@@ -1,10 +1,8 @@
-ghost use Rattle.std.specs.Prelude.{◌≡◌, find, IfOk, map};
+ghost use Rattle.std.specs.Prelude.{◌≡◌, find, map};
 ghost use Rattle.std.specs.Option.{option_copied};
 ghost use Rattle.sessions.specs.Table.{owned_among, owner_among, ownership_of};
 
 use crate::session::{Session, session_at};
-use std::alloc::Global;
-use ua_base::OutOfMemory;
 use ua_values::UaText;
 
 /// What is known of the owner of one subscription.
@@ -50,14 +48,4 @@ pub fn ownership_of(owned: &[Ownership], id: u32) -> Option<&Ownership>
     ensures { option_copied result ≡ ownership_of id owned.now }
 {
     owned.iter().find(|ownership| ownership.id == id)
-}
-
-/// An equal text.
-pub fn copy_text(alloc: Global, text: &UaText) -> Result<UaText, OutOfMemory>
-    ensures { IfOk result (λ copy. copy ≡ text.now) }
-{
-    match text.bytes() {
-        None => Ok(UaText::null()),
-        Some(bytes) => Ok(UaText::new(Vec::from_slice(alloc, bytes)?)),
-    }
 }

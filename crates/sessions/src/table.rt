@@ -4,7 +4,7 @@ ghost use Rattle.sessions.specs.Session.{has_token, is_numbered, is_unbound, las
 ghost use Rattle.sessions.specs.Table.{activate_answer, activated, are_bound, bound_answer, check_answer, closed, conn_of, created, disowned, driven_out_of, due_of, expired, is_full, keeps, lives, no_sessions, oldest_of, owned, owner_of, ownership_of, parked, place_to_leave, requested, session_at, unbound, unparked, waits, with_room, without_id};
 
 use crate::fault::SessionFault;
-use crate::ownership::{Ownership, copy_text, keep_owners_among, ownership_of};
+use crate::ownership::{Ownership, keep_owners_among, ownership_of};
 use crate::session::{Parked, Session, session_at};
 use std::alloc::Global;
 use std::marker::Model;
@@ -305,7 +305,7 @@ impl Sessions {
         ensures unchanged { OnErr result (self.new ≡ self.old) }
     {
         if let Some(session) = session_at(&self.sessions, session) {
-            let uri = copy_text(alloc, &session.uri)?;
+            let uri = session.uri.copy(alloc)?;
             let owner = Some(session.counter);
             self.owned.push(Ownership { id, owner, uri })?;
         }
