@@ -8,6 +8,8 @@ mod head;
 mod laws;
 mod nested;
 mod reading;
+#[cfg(test)]
+mod tests;
 mod variant;
 mod writing;
 
