@@ -1,0 +1,6 @@
+//! The messages that a subscription keeps for Republish: its retransmission queue (OPC 10000-4, 5.13.1.1).
+#![tactic(auto)]
+
+mod retransmission;
+
+pub use retransmission::{Kept, MOST_KEPT, Sent, Unknown};
