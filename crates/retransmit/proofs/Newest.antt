@@ -1,12 +1,10 @@
 -- The kept messages with the newest first, where a recursion over the calls has the newest message at hand.
-use Rattle.std.proofs.Common.{◌≡◌, ℕ, zero, suc, ◌+◌, ◌-◌, ◌≤◌, ◌<◌, min, List, [], ◌∷◌, ◌++◌, Bool, true, false, not, ◌==◌, length, take, drop, Option, Some, None, refl, sym, ◌∙◌, ap, subst, arith, rules, cond, filter, ⊎_elim}
-use Rattle.std.specs.Prelude.{reverse, ⊤}
-use Rattle.std.proofs.lemmas.List.{append_assoc, append-nil, reverse-append, length-reverse, length-take, length-drop, take-append-drop, drop_at, take_all, take-take}
+use Rattle.std.proofs.Common.{◌≡◌, ℕ, zero, suc, ◌-◌, ◌≤◌, min, List, [], ◌∷◌, ◌++◌, Bool, true, false, not, ◌==◌, length, take, drop, refl, sym, ◌∙◌, ap, arith, ⊎_elim}
+use Rattle.std.specs.Prelude.{reverse}
+use Rattle.std.proofs.lemmas.List.{append-nil, reverse-append, length-reverse, length-take, length-drop, take-append-drop, drop_at, take_all, take-take}
 use Rattle.std.proofs.lemmas.List.Elements.{filter-append}
-use Rattle.std.proofs.lemmas.Bool.{eqb-true, eqb-false}
-use Rattle.std.proofs.lemmas.Bool.Decides.{nat_tests}
 use Rattle.retransmit.specs.declared.retransmission.Sent.{Sent}
-use Rattle.retransmit.specs.Kept.{last_ones, without, message_of}
+use Rattle.retransmit.specs.Kept.{last_ones, without}
 use Rattle.retransmit.specs.History.{Call, Send, Acknowledge, kept_after, unacknowledged, AreNewest}
 
 abbrev pub newest : {M : Type 0} → List (Call M) → List (Sent M)
@@ -34,9 +32,9 @@ without-reverse number (sent ∷ kept) =
 last-reverse : {M : Type 0} (count : ℕ) (kept : List (Sent M)) → last_ones count (reverse kept) ≡ reverse (take count kept)
 last-reverse count kept =
     let parts : reverse kept ≡ reverse (drop count kept) ++ reverse (take count kept) =
-        ap reverse (sym (take-append-drop count kept)) ∙ reverse-append (take count kept) (drop count kept) in
+    ap reverse (sym (take-append-drop count kept)) ∙ reverse-append (take count kept) (drop count kept) in
     let long : length (reverse (drop count kept)) ≡ length (reverse kept) - count =
-        length-reverse (drop count kept) ∙ length-drop count kept ∙ ap (λ n. n - count) (sym (length-reverse kept)) in
+    length-reverse (drop count kept) ∙ length-drop count kept ∙ ap (λ n. n - count) (sym (length-reverse kept)) in
     ap (drop (length (reverse kept) - count)) parts ∙ drop_at _ (reverse (take count kept)) _ long
 
 pub kept-newest : {M : Type 0} (history : List (Call M)) → kept_after history ≡ reverse (newest history)
@@ -70,11 +68,11 @@ without-take number (suc count) (sent ∷ kept) = without-take_by _ number sent 
 take_both : {A : Type 0} (m n : ℕ) (xs : List A) → take m (take n xs) ≡ take (min m n) xs
 take_both m n xs =
     ⊎_elim
-      (λ (below : m ≤ n). take-take m n xs below ∙ ap (λ k. take k xs) (grind arith))
-      (λ (above : n ≤ m).
-          let short : length (take n xs) ≤ m = let long = length-take n xs in omega arith in
-          take_all m (take n xs) short ∙ ap (λ k. take k xs) (grind arith))
-      (grind arith)
+    (λ (below : m ≤ n). take-take m n xs below ∙ ap (λ k. take k xs) (grind arith))
+    (λ (above : n ≤ m).
+    let short : length (take n xs) ≤ m = let long = length-take n xs in omega arith in
+    take_all m (take n xs) short ∙ ap (λ k. take k xs) (grind arith))
+    (grind arith)
 
 cut_front : {M : Type 0} (sent : Sent M) (front whole : List (Sent M)) (most : ℕ) → IsFront most front whole → IsFront 64 (take 64 (sent ∷ front)) (sent ∷ whole)
 cut_front sent front whole most h =
