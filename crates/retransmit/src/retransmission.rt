@@ -94,8 +94,9 @@ impl<M: Drop> Kept<M> {
         ensures sent { self.new ≡ with_sent number message self.old }
         ensures always { IsOk result }
     {
-        take_out(&mut self.ring, number);
-        self.ring.push_back(Sent { number, message });
+        let ring = &mut self.ring;
+        take_out(ring, number);
+        ring.push_back(Sent { number, message });
         Ok(())
     }
 

@@ -149,7 +149,7 @@ fn what_is_acknowledged_frees_its_place(rt: HostRuntime) -> Result<(), Fail> {
     let mut told = vec![in rt.alloc(); 7]?;
     kept.numbers(&mut told)?;
     assert_eq!(rt; told.len(), 65);
-    assert_eq!(rt; told[..2], [7, 5].as_slice());
-    assert_eq!(rt; told[61..], [65, 3, 67, 68].as_slice());
+    assert_eq!(rt; &told[..2], [7, 5].as_slice());
+    assert_eq!(rt; &told[61..], [65, 3, 67, 68].as_slice());
     Ok(())
 }
