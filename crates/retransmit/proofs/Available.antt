@@ -1,10 +1,10 @@
 -- What is given for a number, by the calls so far.
-use Rattle.std.proofs.Common.{◌≡◌, ℕ, zero, suc, ◌≤◌, ◌<◌, max, List, [], ◌∷◌, ◌++◌, Bool, true, false, not, ◌&&◌, ◌==◌, nat_lt, length, take, Option, Some, None, refl, sym, ◌∙◌, ap, ap₂, subst, arith, cond}
+use Rattle.std.proofs.Common.{◌≡◌, ℕ, zero, suc, ◌+◌, ◌-◌, ◌≤◌, ◌<◌, max, List, [], ◌∷◌, ◌++◌, Bool, true, false, not, ◌&&◌, ◌==◌, nat_lt, length, take, drop, Option, Some, None, refl, sym, ◌∙◌, ap, ap₂, subst, arith, cond}
 use Rattle.std.specs.Prelude.{reverse, if◌then◌else◌}
-use Rattle.std.proofs.lemmas.List.{reverse-append}
+use Rattle.std.proofs.lemmas.List.{reverse-append, drop-append-le, length_push}
 use Rattle.std.proofs.lemmas.Bool.Decides.{nat_tests}
 use Rattle.retransmit.specs.declared.retransmission.Sent.{Sent}
-use Rattle.retransmit.specs.Kept.{without, message_of}
+use Rattle.retransmit.specs.Kept.{without, message_of, with_sent}
 use Rattle.retransmit.specs.History.{Call, Send, Acknowledge, others, kept_after, last_sent, acknowledged, waiting_since, most_waiting, available, sendings_since}
 use Rattle.retransmit.proofs.Newest.{newest, kept-newest}
 
@@ -27,7 +27,7 @@ gone_by : {M : Type 0} (b : Bool) (number : ℕ) (sent : Sent M) (kept : List (S
 gone_by true number sent kept is h = rw is h
 gone_by false number sent kept is h = rw (is, is) h
 
-gone : {M : Type 0} (number : ℕ) (kept : List (Sent M)) → message_of number (without number kept) ≡ None
+pub gone : {M : Type 0} (number : ℕ) (kept : List (Sent M)) → message_of number (without number kept) ≡ None
 gone number [] = refl
 gone number (sent ∷ kept) = gone_by _ number sent kept refl (gone number kept)
 
@@ -144,6 +144,26 @@ last_here : {M : Type 0} (number : ℕ) (sent : Sent M) (kept : List (Sent M)) �
     → message_of number (kept ++ sent ∷ []) ≡ Some sent.message
 last_here number sent [] here none = rw here refl
 last_here number sent (first ∷ kept) here none = last_here_by _ number first sent kept refl (last_here number sent kept here) none
+
+-- a message that is sent is given
+none_drop_by : {M : Type 0} (b : Bool) (number : ℕ) (first : Sent M) (kept rest : List (Sent M)) → (first.number == number) ≡ b
+    → (message_of number kept ≡ None → message_of number rest ≡ None) → message_of number (first ∷ kept) ≡ None → message_of number rest ≡ None
+none_drop_by true number first kept rest is h none = let some : Some first.message ≡ None = sym (first_given number first kept is) ∙ none in absurd cc
+none_drop_by false number first kept rest is h none = h (sym (rest_given number first kept is) ∙ none)
+
+none_drop : {M : Type 0} (number count : ℕ) (kept : List (Sent M)) → message_of number kept ≡ None → message_of number (drop count kept) ≡ None
+none_drop number zero kept none = none
+none_drop number (suc count) [] none = refl
+none_drop number (suc count) (first ∷ kept) none = none_drop_by _ number first kept (drop count kept) refl (none_drop number count kept) none
+
+pub sent_given : {M : Type 0} (number : ℕ) (message : M) (kept : List (Sent M)) → message_of number (with_sent number message kept) ≡ Some message
+sent_given number message kept =
+    let sent : Sent _ = record { number = number; message = message } in
+    let rest = without number kept in
+    let long : length (rest ++ sent ∷ []) ≡ length rest + 1 = length_push rest sent in
+    let same : (number == number) ≡ true = grind (arith, nat_tests) in
+    ap (message_of number) (drop-append-le (length (rest ++ sent ∷ []) - 64) rest (sent ∷ []) (omega arith))
+    ∙ last_here number sent (drop (length (rest ++ sent ∷ []) - 64) rest) same (none_drop number (length (rest ++ sent ∷ []) - 64) rest (gone number kept))
 
 given-reverse_by : {M : Type 0} (b : Bool) (number : ℕ) (sent : Sent M) (kept : List (Sent M)) → (sent.number == number) ≡ b → Once sent kept
     → message_of number (reverse kept) ≡ message_of number kept → message_of number (reverse kept ++ sent ∷ []) ≡ message_of number (sent ∷ kept)

@@ -1,4 +1,4 @@
-ghost use Rattle.std.specs.Prelude.{◌≡◌, ◌≤◌, ◌↔◌, [], ◌∷◌, ◌++◌, None, length, filter, not, ◌==◌, option_copied, IfOk, IsOk, IsErr, OnOk, OnErr};
+ghost use Rattle.std.specs.Prelude.{◌≡◌, ◌≤◌, ◌↔◌, [], ◌∷◌, ◌++◌, Some, None, length, filter, not, ◌==◌, option_copied, IfOk, IsOk, IsErr, OnOk, OnErr};
 ghost use Rattle.circular_buffer.specs.Buffer.{buffer};
 ghost use Rattle.retransmit.specs.Kept.{message_of, numbers_of, turned, with_sent, without};
 
@@ -39,7 +39,7 @@ pub struct Sent<M: Drop> {
 
 /// The messages that were sent and are not acknowledged, the last `MOST_KEPT` of them at the most, in the order of
 /// their sending. Each is under its sequence number.
-#[derive(Drop)]
+#[derive(Debug, Drop)]
 pub struct Kept<M: Drop> {
     ring: HeapCircularBuffer<Sent<M>>,
 }
@@ -92,6 +92,7 @@ impl<M: Drop> Kept<M> {
     /// one; where one more than `MOST_KEPT` would be kept, the oldest goes.
     pub fn send(&mut self, number: u32, message: M) -> Result<(), OutOfMemory>
         ensures sent { self.new ≡ with_sent number message self.old }
+        ensures given { message_of number self.new ≡ Some message }
         ensures always { IsOk result }
     {
         let ring = &mut self.ring;
@@ -107,6 +108,7 @@ impl<M: Drop> Kept<M> {
     /// `Unknown` exactly where no message of this number is kept; nothing changes then.
     pub fn ack(&mut self, number: u32) -> Result<(), Unknown>
         ensures ok { OnOk result (self.new ≡ without number self.old) }
+        ensures gone { message_of number self.new ≡ None }
         ensures unknown { IsErr result ↔ (message_of number self.old ≡ None) }
         ensures unchanged { OnErr result (self.new ≡ self.old) }
     {
