@@ -222,7 +222,7 @@ impl Server {
         self.position = source.changes().len();
     }
 
-    /// Moves up to so many oldest entries of each queue into the client's log, if the server runs.
+    /// Moves up to so many oldest entries of each queue into the client's log.
     pub(crate) fn take(
         &mut self,
         alloc: Global,

@@ -4,8 +4,8 @@ use Rattle.std.proofs.lemmas.Bool.{cases_lt}
 use Rattle.std.proofs.Math.Seq.{take-append-add}
 use Rattle.std.proofs.lemmas.List.{append-nil, take-append-drop, length-append, length-take, take-append-le}
 use Rattle.ua_values.specs.Reading.{Input, input, Reader, Fault, Short, Bad, passed, ◌>>=◌}
-use Rattle.ua_values.specs.Parts.{Chained, Begun}
-use Rattle.ua_values.specs.Codec.{Took, Faulty, IsCodec}
+use Rattle.ua_values.specs.Parts.{Chained, Begun, ChainCut}
+use Rattle.ua_values.specs.Codec.{Took, Faulty, Reads, IsCodec}
 
 abbrev done : {A : Type 0} → A → Result A Fault
 done x = Ok x
@@ -25,7 +25,7 @@ not_empty : (a ys : List ℕ) (y : ℕ) → a ++ y ∷ ys ≡ [] → ⊥
 not_empty [] ys y e = absurd cc
 not_empty (x ∷ a) ys y e = absurd cc
 
-cut_by : {A : Type 0} (S : A → List ℕ → Type 0) (at : Reader A) → IsCodec S at → (a : A) (p : ℕ) (x : List ℕ) (y : ℕ) (ys : List ℕ) → S a (x ++ y ∷ ys)
+cut_by : {A : Type 0} {C : List ℕ → Type 0} (S : A → List ℕ → Type 0) (at : Reader A) → Reads S C at → (a : A) (p : ℕ) (x : List ℕ) (y : ℕ) (ys : List ℕ) → S a (x ++ y ∷ ys)
     → (r : Answer A) → at (input p x) ≡ r → at (input p x) ≡ Err Short
 cut_by {A = A} S at codec a p x y ys spelled (Ok b) e =
     let t = codec.found p x b.0 b.1 e in
@@ -45,11 +45,11 @@ cut_by S at codec a p x y ys spelled (Err (Bad q c)) e =
     absurd (failed _ _ (sym right ∙ ap (λ (l : List ℕ). at (input p l)) (sym joined) ∙ wrong))
 
 -- a proper front of a spelling is short
-pub is_cut : {A : Type 0} (S : A → List ℕ → Type 0) (at : Reader A) → IsCodec S at → (a : A) (p : ℕ) (x : List ℕ) (y : ℕ) (ys : List ℕ) → S a (x ++ y ∷ ys) → at (input p x) ≡ Err Short
+pub is_cut : {A : Type 0} {C : List ℕ → Type 0} (S : A → List ℕ → Type 0) (at : Reader A) → Reads S C at → (a : A) (p : ℕ) (x : List ℕ) (y : ℕ) (ys : List ℕ) → S a (x ++ y ∷ ys) → at (input p x) ≡ Err Short
 is_cut S at codec a p x y ys spelled = cut_by S at codec a p x y ys spelled (at (input p x)) refl
 
 -- no spelling is a proper front of another
-pub is_apart : {A : Type 0} (S : A → List ℕ → Type 0) (at : Reader A) → IsCodec S at → (a b : A) (x y : List ℕ) → S a x → S b (x ++ y) → (y ≡ []) × (a ≡ b)
+pub is_apart : {A : Type 0} {C : List ℕ → Type 0} (S : A → List ℕ → Type 0) (at : Reader A) → Reads S C at → (a b : A) (x y : List ℕ) → S a x → S b (x ++ y) → (y ≡ []) × (a ≡ b)
 is_apart {A = A} S at codec a b x y first second =
     let one : at (input 0 (x ++ y)) ≡ Ok (a, input (0 + length x) y) = codec.again 0 x y a first in
     let two : at (input 0 ((x ++ y) ++ [])) ≡ Ok (b, input (0 + length (x ++ y)) []) = codec.again 0 (x ++ y) [] b second in
@@ -75,7 +75,7 @@ same S T at to from codec = record {
 
 -- ---- one after the other
 
-cut_front : {A : Type 0} (S : A → List ℕ → Type 0) (at : Reader A) → IsCodec S at → (a : A) (p n : ℕ) (text left : List ℕ) → S a text → drop n text ≡ left → n < length text → at (input p (take n text)) ≡ Err Short
+pub cut_front : {A : Type 0} {C : List ℕ → Type 0} (S : A → List ℕ → Type 0) (at : Reader A) → Reads S C at → (a : A) (p n : ℕ) (text left : List ℕ) → S a text → drop n text ≡ left → n < length text → at (input p (take n text)) ≡ Err Short
 cut_front S at codec a p n text [] spelled is lt =
     let long : length (take n text ++ []) ≡ length text = ap length (ap (λ (l : List ℕ). take n text ++ l) (sym is) ∙ take-append-drop n text) in
     absurd (omega (arith, long, length-append (take n text) [], length-take n text))
@@ -85,7 +85,7 @@ cut_front S at codec a p n text (y ∷ ys) spelled is lt =
 pub chained : {A B : Type 0} (S : A → List ℕ → Type 0) (T : A → B → List ℕ → Type 0) (a : A) (b : B) (x y : List ℕ) → S a x → T a b y → Chained S T b (x ++ y)
 chained S T a b x y first second = record { value = a; parts = record { front = x; back = y; first = first; second = second; whole = refl } }
 
-found_by : {A B : Type 0} (S : A → List ℕ → Type 0) (at : Reader A) (T : A → B → List ℕ → Type 0) (next : A → Reader B) → IsCodec S at → ((a : A) → IsCodec (T a) (next a))
+found_by : {A B : Type 0} {C : List ℕ → Type 0} {D : A → List ℕ → Type 0} (S : A → List ℕ → Type 0) (at : Reader A) (T : A → B → List ℕ → Type 0) (next : A → Reader B) → Reads S C at → ((a : A) → Reads (T a) (D a) (next a))
     → (p : ℕ) (bytes : List ℕ) (b : B) (after : Input) (r : Answer A) → at (input p bytes) ≡ r → passed r next ≡ Ok (b, after) → Took (Chained S T) p bytes b after
 found_by {A = A} {B = B} S at T next first second p bytes b after (Ok x) e h =
     let t = first.found p bytes x.0 x.1 e in
@@ -101,7 +101,7 @@ found_by {A = A} {B = B} S at T next first second p bytes b after (Ok x) e h =
     }
 found_by S at T next first second p bytes b after (Err f) e h = absurd cc
 
-again_by : {A B : Type 0} (S : A → List ℕ → Type 0) (at : Reader A) (T : A → B → List ℕ → Type 0) (next : A → Reader B) → IsCodec S at → ((a : A) → IsCodec (T a) (next a))
+again_by : {A B : Type 0} {C : List ℕ → Type 0} {D : A → List ℕ → Type 0} (S : A → List ℕ → Type 0) (at : Reader A) (T : A → B → List ℕ → Type 0) (next : A → Reader B) → Reads S C at → ((a : A) → Reads (T a) (D a) (next a))
     → (p : ℕ) (text more : List ℕ) (b : B) → Chained S T b text → (at >>= next) (input p (text ++ more)) ≡ Ok (b, input (p + length text) more)
 again_by S at T next first second p text more b chain =
     let front = chain.parts.front in
@@ -135,7 +135,7 @@ then_bad at next i q c e = rw e refl
 then_ok : {A B : Type 0} (at : Reader A) (next : A → Reader B) (i j : Input) (a : A) (r : Answer B) → at i ≡ Ok (a, j) → next a j ≡ r → (at >>= next) i ≡ r
 then_ok at next i j a r e h = rw e h
 
-begins_by : {A B : Type 0} (S : A → List ℕ → Type 0) (at : Reader A) (next : A → Reader B) → IsCodec S at → (a : A) (p : ℕ) (text rest : List ℕ) → S a text → (k : ℕ)
+begins_by : {A B : Type 0} {C : List ℕ → Type 0} (S : A → List ℕ → Type 0) (at : Reader A) (next : A → Reader B) → Reads S C at → (a : A) (p : ℕ) (text rest : List ℕ) → S a text → (k : ℕ)
     → ((n : ℕ) → n < k → next a (input (p + length text) (take n rest)) ≡ Err Short) → (n : ℕ) → n < length text + k → (at >>= next) (input p (take n (text ++ rest))) ≡ Err Short
 begins_by S at next codec a p text rest spelled k begins n lt = elim (cases_lt n (length text)) [
   | inl inside ↦
@@ -148,7 +148,7 @@ begins_by S at next codec a p text rest spelled k begins n lt = elim (cases_lt n
       then_ok at next (input p (take n (text ++ rest))) (input (p + length text) (take (n - length text) rest)) a (Err Short) (ap (λ (l : List ℕ). at (input p l)) fronts ∙ one) (begins (n - length text) (omega arith))
 ]
 
-faulty_by : {A B : Type 0} (S : A → List ℕ → Type 0) (at : Reader A) (T : A → B → List ℕ → Type 0) (next : A → Reader B) → IsCodec S at → ((a : A) → IsCodec (T a) (next a))
+faulty_by : {A B : Type 0} {C : List ℕ → Type 0} {D : A → List ℕ → Type 0} (S : A → List ℕ → Type 0) (at : Reader A) (T : A → B → List ℕ → Type 0) (next : A → Reader B) → Reads S C at → ((a : A) → Reads (T a) (D a) (next a))
     → (p : ℕ) (bytes : List ℕ) (q c : ℕ) (r : Answer A) → at (input p bytes) ≡ r → passed r next ≡ Err (Bad q c) → Faulty (at >>= next) p bytes q c
 faulty_by S at T next first second p bytes q c (Ok x) e h =
     let t = first.found p bytes x.0 x.1 e in
@@ -185,14 +185,49 @@ faulty_by S at T next first second p bytes q c (Err (Bad q2 c2)) e h =
       breaks = λ more. then_bad at next (input p (take (f.start + f.width) bytes ++ more)) q c (f.breaks more);
     }
 
+-- ---- a codec is a reader
+
+pub reads : {A : Type 0} (S : A → List ℕ → Type 0) (at : Reader A) → IsCodec S at → Reads S (Begun S) at
+reads S at codec = record { found = codec.found; again = codec.again; short = codec.short; faulty = codec.faulty }
+
+cut_in : {A B : Type 0} (S : A → List ℕ → Type 0) (C : List ℕ → Type 0) (at : Reader A) (D : A → List ℕ → Type 0) (T : A → B → List ℕ → Type 0) (next : A → Reader B)
+    → Reads S C at → ((a : A) → Reads (T a) (D a) (next a))
+    → (p : ℕ) (bytes : List ℕ) (r : Answer A) → at (input p bytes) ≡ r → passed r next ≡ Err Short → ChainCut S C D bytes
+cut_in S C at D T next first second p bytes (Ok x) e h =
+    let t = first.found p bytes x.0 x.1 e in
+    let there : next x.0 (input (p + length t.text) t.rest) ≡ Err Short = ap (λ (i : Input). next x.0 i) (sym t.after_is) ∙ h in
+    inr (record { value = x.0; front = t.text; back = t.rest; first = t.spelled; second = (second x.0).short (p + length t.text) t.rest there; whole = t.whole })
+cut_in S C at D T next first second p bytes (Err Short) e h = inl (first.short p bytes e)
+cut_in S C at D T next first second p bytes (Err (Bad q c)) e h = absurd cc
+
+-- what is read after a choice
+pub reads_on : {A B : Type 0} (S : A → List ℕ → Type 0) (C : List ℕ → Type 0) (at : Reader A) (T : A → B → List ℕ → Type 0) (D : A → List ℕ → Type 0) (next : A → Reader B)
+    → Reads S C at → ((a : A) → Reads (T a) (D a) (next a)) → Reads (Chained S T) (ChainCut S C D) (at >>= next)
+reads_on S C at T D next first second = record {
+  found = λ p bytes b after h. found_by S at T next first second p bytes b after (at (input p bytes)) refl h;
+  again = again_by S at T next first second;
+  short = λ p bytes h. cut_in S C at D T next first second p bytes (at (input p bytes)) refl h;
+  faulty = λ p bytes q c h. faulty_by S at T next first second p bytes q c (at (input p bytes)) refl h;
+}
+
+-- the same bytes in other words
+pub reads_as : {A : Type 0} (S T : A → List ℕ → Type 0) (C D : List ℕ → Type 0) (at : Reader A) → ((a : A) (bytes : List ℕ) → S a bytes → T a bytes) → ((a : A) (bytes : List ℕ) → T a bytes → S a bytes)
+    → ((bytes : List ℕ) → C bytes → D bytes) → Reads S C at → Reads T D at
+reads_as S T C D at to from cut reader = record {
+  found = λ place bytes a after e. took_as S T to place bytes a after (reader.found place bytes a after e);
+  again = λ place text more a spelled. reader.again place text more a (from a text spelled);
+  short = λ place bytes e. cut bytes (reader.short place bytes e);
+  faulty = reader.faulty;
+}
+
 pub chain : {A B : Type 0} (S : A → List ℕ → Type 0) (at : Reader A) (T : A → B → List ℕ → Type 0) (next : A → Reader B) → IsCodec S at → ((a : A) → IsCodec (T a) (next a))
     → IsCodec (Chained S T) (at >>= next)
 chain S at T next first second = record {
   one = (second first.one).one;
   one_text = first.one_text ++ (second first.one).one_text;
   one_spelled = chained S T first.one (second first.one).one first.one_text (second first.one).one_text first.one_spelled (second first.one).one_spelled;
-  found = λ p bytes b after h. found_by S at T next first second p bytes b after (at (input p bytes)) refl h;
-  again = again_by S at T next first second;
+  found = λ p bytes b after h. found_by S at T next (reads S at first) (λ a. reads (T a) (next a) (second a)) p bytes b after (at (input p bytes)) refl h;
+  again = again_by S at T next (reads S at first) (λ a. reads (T a) (next a) (second a));
   short = λ p bytes h. short_by S at T next first second p bytes (at (input p bytes)) refl h;
-  faulty = λ p bytes q c h. faulty_by S at T next first second p bytes q c (at (input p bytes)) refl h;
+  faulty = λ p bytes q c h. faulty_by S at T next (reads S at first) (λ a. reads (T a) (next a) (second a)) p bytes q c (at (input p bytes)) refl h;
 }

@@ -5,13 +5,13 @@ use Rattle.std.proofs.lemmas.List.{take-append-drop, length-append, length-take,
 use Rattle.byteorder.specs.Endian.{little_number}
 use Rattle.ua_values.specs.Reading.{Input, input, Fault, Short, Bad, give, run_at, judged, field_at, any, number_at}
 use Rattle.ua_values.specs.Parts.{number, exactly, nothing, Begun, IsRefused}
-use Rattle.ua_values.specs.Codec.{Took, Faulty, IsCodec}
+use Rattle.ua_values.specs.Codec.{Took, Faulty, Reads, IsCodec}
 use Rattle.ua_values.proofs.Chain.{ok_is, same}
 
-no_ok : {A : Type 0} (f : Fault) (x : A) → ◌≡◌ {A = Result A Fault} (Ok x) (Err f) → ⊥
+pub no_ok : {A : Type 0} (f : Fault) (x : A) → ◌≡◌ {A = Result A Fault} (Ok x) (Err f) → ⊥
 no_ok f x e = cc
 
-short_not_bad : {A : Type 0} (q c : ℕ) → ◌≡◌ {A = Result A Fault} (Err Short) (Err (Bad q c)) → ⊥
+pub short_not_bad : {A : Type 0} (q c : ℕ) → ◌≡◌ {A = Result A Fault} (Err Short) (Err (Bad q c)) → ⊥
 short_not_bad q c e = cc
 
 ok_nat : (n m : ℕ) → ◌≡◌ {A = Result ℕ ℕ} (Ok n) (Ok m) → n ≡ m
@@ -131,17 +131,17 @@ field_whole : {A : Type 0} (w : ℕ) (meaning : ℕ → Result A ℕ) (p : ℕ) 
     → field_at w meaning (input p bytes) ≡ judged (meaning (little_number w (take w bytes))) p (input (p + w) (drop w bytes))
 field_whole w meaning p bytes le = rw (run_whole w p bytes le) refl
 
-judged_ok : {A : Type 0} (m : Result A ℕ) (p : ℕ) (i : Input) (a : A) (after : Input) → judged m p i ≡ Ok (a, after) → (m ≡ Ok a) × (i ≡ after)
+pub judged_ok : {A : Type 0} (m : Result A ℕ) (p : ℕ) (i : Input) (a : A) (after : Input) → judged m p i ≡ Ok (a, after) → (m ≡ Ok a) × (i ≡ after)
 judged_ok {A = A} (Ok b) p i a after e =
     let is = ok_is (b, i) (a, after) e in
     (ap (λ (z : A × Input). Ok z.0) is, ap (λ (z : A × Input). z.1) is)
 judged_ok (Err c) p i a after e = absurd cc
 
-judged_bad : {A : Type 0} (m : Result A ℕ) (p : ℕ) (i : Input) (q c : ℕ) → judged m p i ≡ Err (Bad q c) → (m ≡ Err c) × (p ≡ q)
+pub judged_bad : {A : Type 0} (m : Result A ℕ) (p : ℕ) (i : Input) (q c : ℕ) → judged m p i ≡ Err (Bad q c) → (m ≡ Err c) × (p ≡ q)
 judged_bad (Ok b) p i q c e = absurd cc
 judged_bad (Err d) p i q c e = (cc, cc)
 
-judged_not_short : {A : Type 0} (m : Result A ℕ) (p : ℕ) (i : Input) → judged m p i ≡ Err Short → ⊥
+pub judged_not_short : {A : Type 0} (m : Result A ℕ) (p : ℕ) (i : Input) → judged m p i ≡ Err Short → ⊥
 judged_not_short (Ok b) p i e = cc
 judged_not_short (Err d) p i e = cc
 
@@ -205,6 +205,18 @@ field_codec w meaning rules = record {
   found = field_found w meaning;
   again = λ p text more a spelled. field_again w meaning p spelled.0 text more a spelled.1 spelled.2;
   short = field_short_is w meaning rules;
+  faulty = field_faulty w meaning rules;
+}
+
+-- without the way in which a field that is cut off may go on
+pub field_reads : {A : Type 0} (w : ℕ) (meaning : ℕ → Result A ℕ) → IsField w meaning → Reads (field w meaning) (λ bytes. length bytes < w) (field_at w meaning)
+field_reads w meaning rules = record {
+  found = field_found w meaning;
+  again = λ p text more a spelled. field_again w meaning p spelled.0 text more a spelled.1 spelled.2;
+  short = λ p bytes e. elim (cases_lt (length bytes) w) [
+    | inl lt ↦ lt
+    | inr le ↦ absurd (judged_not_short _ p _ (sym (field_whole w meaning p bytes le) ∙ e))
+  ];
   faulty = field_faulty w meaning rules;
 }
 

@@ -1,5 +1,6 @@
 pub mod Chain
 pub mod Leaves
+pub mod Nesting
 pub mod Fields
 pub mod TypeCodecs
 pub mod Answers

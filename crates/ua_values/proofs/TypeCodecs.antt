@@ -107,7 +107,7 @@ length_says false false n (Some k) p q e =
 
 length_refuses : (b c : Bool) (n : ℕ) (code : ℕ) → judged_length b c n ≡ Err code → IsRefused code 4
 length_refuses true c n code e = absurd cc
-length_refuses false true n code e = let is : code ≡ 0x80080000 = cc in inr (is, refl)
+length_refuses false true n code e = let is : code ≡ 0x80080000 = cc in inr (inl (is, refl))
 length_refuses false false n code e = absurd cc
 
 -- a length that is cut off may be a negative one

@@ -24,25 +24,29 @@ use Rattle.ua_values.specs.declared.extension.ExtensionObject.{ExtensionObject}
 use Rattle.ua_values.specs.declared.extension.ExtensionBody.{ExtensionBody}
 use Rattle.ua_values.specs.declared.extension.ExtensionBody.TheVariants as extension
 use Rattle.ua_values.specs.declared.extension.BodyKind.TheVariants as kind
+use Rattle.ua_values.specs.declared.fault.TheConstants.{MOST_ITEMS}
 use Rattle.ua_values.specs.Reading.{Reader, sized}
-use Rattle.ua_values.specs.Parts.{number, exactly, optional, ◌followed_by◌, text, elements, array}
-use Rattle.ua_values.specs.Codec.{IsCodec}
+use Rattle.ua_values.specs.Parts.{number, exactly, optional, ◌followed_by◌, text, elements, array_within, array, Begun}
+use Rattle.ua_values.specs.Codec.{Reads, IsCodec}
 use Rattle.ua_values.specs.Readers.{has_bit}
 use Rattle.ua_values.specs.Types.{boolean, signed, guid, form_byte, form_body, node_id, expanded_node_id, qualified_name, localized_text, extension_body, extension_object}
 use Rattle.ua_values.specs.Written.{written_boolean, written_signed, written_guid, written_text, shortest, written_number, written_form, written_node, flag, unless_null, unless_zero, written_head, written_expanded, written_qualified, written_localized, written_body, written_extension, written_array}
-use Rattle.ua_values.specs.Laws.{KeepsText, KeepsGuid, KeepsNode, KeepsExpanded, KeepsQualified, KeepsLocalized, KeepsBody, KeepsExtension, KeepsArray, IsLawful}
-use Rattle.ua_values.proofs.Chain.{is_apart}
+use Rattle.ua_values.specs.Laws.{KeepsText, KeepsGuid, KeepsNode, KeepsExpanded, KeepsQualified, KeepsLocalized, KeepsBody, KeepsExtension, KeepsArrayWithin, KeepsArray, IsLawful}
+use Rattle.ua_values.proofs.Chain.{is_apart, reads}
 
 -- ---- all three laws, from a codec and the second
 
-pub lawful : {A : Type 0} (keeps : A → Type 0) (spells : A → List ℕ → Type 0) (at : Reader A) (written : A → List ℕ) → IsCodec spells at → ((a : A) → keeps a → spells a (written a)) → IsLawful keeps spells at written
-lawful keeps spells at written codec is_spelled = record {
-  apart = λ a b x y first second. is_apart spells at codec a b x y first second;
+pub lawful_by : {A : Type 0} (keeps : A → Type 0) (spells : A → List ℕ → Type 0) (cut : List ℕ → Type 0) (at : Reader A) (written : A → List ℕ) → Reads spells cut at → ((a : A) → keeps a → spells a (written a)) → IsLawful keeps spells at written
+lawful_by keeps spells cut at written reader is_spelled = record {
+  apart = λ a b x y first second. is_apart spells at reader a b x y first second;
   spelled = is_spelled;
-  again = λ a more kept. ap sized (codec.again 0 (written a) more a (is_spelled a kept)) ∙ ap (λ (n : ℕ). Ok (a, n)) (omega arith);
+  again = λ a more kept. ap sized (reader.again 0 (written a) more a (is_spelled a kept)) ∙ ap (λ (n : ℕ). Ok (a, n)) (omega arith);
 }
 
-in_turn : (P Q : List ℕ → Type 0) (x y : List ℕ) → P x → Q y → (P followed_by Q) (x ++ y)
+pub lawful : {A : Type 0} (keeps : A → Type 0) (spells : A → List ℕ → Type 0) (at : Reader A) (written : A → List ℕ) → IsCodec spells at → ((a : A) → keeps a → spells a (written a)) → IsLawful keeps spells at written
+lawful keeps spells at written codec is_spelled = lawful_by keeps spells (Begun spells) at written (reads spells at codec) is_spelled
+
+pub in_turn : (P Q : List ℕ → Type 0) (x y : List ℕ) → P x → Q y → (P followed_by Q) (x ++ y)
 in_turn P Q x y first second = record { front = x; back = y; first = first; second = second; whole = refl }
 
 -- ---- numbers
@@ -50,13 +54,13 @@ in_turn P Q x y first second = record { front = x; back = y; first = first; seco
 pub number_spelled : (w n : ℕ) → n < 256 ^ w → number w n (little_bytes w n)
 number_spelled w n lt = (length-bytes_low_first 0 w n, ap (little_number w) (sym (append-nil (little_bytes w n))) ∙ little_number-reads_back w n [] lt)
 
-number1 : (n : ℕ) → n < 256 → number 1 n (little_bytes 1 n)
+pub number1 : (n : ℕ) → n < 256 → number 1 n (little_bytes 1 n)
 number1 n lt = number_spelled 1 n (omega arith)
 
-number2 : (n : ℕ) → n < 2 ^ 16 → number 2 n (little_bytes 2 n)
+pub number2 : (n : ℕ) → n < 2 ^ 16 → number 2 n (little_bytes 2 n)
 number2 n lt = number_spelled 2 n (omega arith)
 
-number4 : (n : ℕ) → n < 2 ^ 32 → number 4 n (little_bytes 4 n)
+pub number4 : (n : ℕ) → n < 2 ^ 32 → number 4 n (little_bytes 4 n)
 number4 n lt = number_spelled 4 n (omega arith)
 
 pub boolean_spelled : (b : Bool) → boolean b (written_boolean b)
@@ -197,12 +201,16 @@ elements_spelled keeps spells written each (a ∷ more) kept =
     subst (λ (l : List ℕ). elements spells (a ∷ more) l) (sym (flat_map-cons written a more))
     (in_turn (spells a) (elements spells more) (written a) (flat_map written more) (each a kept.0) (elements_spelled keeps spells written each more kept.1))
 
-pub array_spelled : {A : Type 0} (keeps : A → Type 0) (spells : A → List ℕ → Type 0) (written : A → List ℕ) → ((a : A) → keeps a → spells a (written a))
-    → (items : List A) → KeepsArray keeps items → array spells items (written_array written items)
-array_spelled keeps spells written each items kept =
+pub array_within_spelled : {A : Type 0} (most : ℕ) → most < 2 ^ 31 → (keeps : A → Type 0) (spells : A → List ℕ → Type 0) (written : A → List ℕ) → ((a : A) → keeps a → spells a (written a))
+    → (items : List A) → KeepsArrayWithin most keeps items → array_within most spells items (written_array written items)
+array_within_spelled most small keeps spells written each items kept =
     let long : length items % 2 ^ 32 ≡ length items = omega arith in
     inr (
       kept.0,
       in_turn (number 4 (length items)) (elements spells items) (little_bytes 4 (length items % 2 ^ 32)) (flat_map written items)
           (subst (λ (n : ℕ). number 4 (length items) (little_bytes 4 n)) (sym long) (number4 (length items) (omega arith))) (elements_spelled keeps spells written each items kept.1),
     )
+
+pub array_spelled : {A : Type 0} (keeps : A → Type 0) (spells : A → List ℕ → Type 0) (written : A → List ℕ) → ((a : A) → keeps a → spells a (written a))
+    → (items : List A) → KeepsArray keeps items → array spells items (written_array written items)
+array_spelled keeps spells written each items kept = array_within_spelled MOST_ITEMS (omega arith) keeps spells written each items kept

@@ -22,6 +22,18 @@ pub record Faulty {A : Type 0} (at : Reader A) (place : ℕ) (bytes : List ℕ) 
   pub begins : (n : ℕ) → n < start + width → at (input place (take n bytes)) ≡ Err Short
   pub breaks : (more : List ℕ) → at (input place (take (start + width) bytes ++ more)) ≡ Err (Bad fault code)
 
+-- a reader reads exactly the spellings; `cut` says of bytes that they end inside one
+pub record Reads {A : Type 0} (spells : A → List ℕ → Type 0) (cut : List ℕ → Type 0) (at : Reader A) : Type 0 where
+  -- what is read is spelled so
+  pub found : (place : ℕ) (bytes : List ℕ) (a : A) (after : Input) → at (input place bytes) ≡ Ok (a, after) → Took spells place bytes a after
+  -- what is spelled so is read, whatever follows
+  pub again : (place : ℕ) (text more : List ℕ) (a : A) → spells a text → at (input place (text ++ more)) ≡ Ok (a, input (place + length text) more)
+  -- what ends early ends inside a spelling
+  pub short : (place : ℕ) (bytes : List ℕ) → at (input place bytes) ≡ Err Short → cut bytes
+  -- a fault is the first one
+  pub faulty : (place : ℕ) (bytes : List ℕ) (fault code : ℕ) → at (input place bytes) ≡ Err (Bad fault code) → Faulty at place bytes fault code
+
+-- besides there is a spelling, and what ends inside one is the front of one
 pub record IsCodec {A : Type 0} (spells : A → List ℕ → Type 0) (at : Reader A) : Type 0 where
   -- there is a spelling
   pub one : A

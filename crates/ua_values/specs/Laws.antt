@@ -44,8 +44,11 @@ abbrev pub KeepsExtension : ExtensionObject → Type 0
 KeepsExtension x = KeepsNode x.type_id × KeepsBody x.body
 
 -- an array whose elements keep theirs
+abbrev pub KeepsArrayWithin : {A : Type 0} → ℕ → (A → Type 0) → List A → Type 0
+KeepsArrayWithin most keeps items = (length items ≤ most) × AllByRecursion keeps items
+
 abbrev pub KeepsArray : {A : Type 0} → (A → Type 0) → List A → Type 0
-KeepsArray keeps items = (length items ≤ MOST_ITEMS) × AllByRecursion keeps items
+KeepsArray keeps items = KeepsArrayWithin MOST_ITEMS keeps items
 
 -- ---- the laws
 

@@ -1,5 +1,5 @@
 -- The parts that spellings are made of. A spelling relates a value to bytes: a value may have several, bytes have one value at most.
-use Rattle.std.specs.Prelude.{◌≡◌, ◌≤◌, ℕ, ◌^◌, List, [], ◌∷◌, ◌++◌, length, Bool, true, false, Option, Some, None, ◌⊎◌}
+use Rattle.std.specs.Prelude.{◌≡◌, ◌≤◌, ◌<◌, ℕ, zero, suc, ◌^◌, List, [], ◌∷◌, ◌++◌, ◌+◌, ◌*◌, length, Bool, true, false, Option, Some, None, ◌⊎◌}
 use Rattle.byteorder.specs.Endian.{little_number}
 use Rattle.ua_values.specs.declared.fault.TheConstants.{MOST_BYTES, MOST_ITEMS}
 
@@ -47,14 +47,49 @@ elements spells [] bytes = nothing bytes
 elements spells (a ∷ more) bytes = (spells a followed_by elements spells more) bytes
 
 -- an empty array is any negative length too; else a length up to the limit, and so many elements
-abbrev pub array : {A : Type 0} → (A → List ℕ → Type 0) → List A → List ℕ → Type 0
-array spells items bytes =
+abbrev pub array_within : {A : Type 0} → ℕ → (A → List ℕ → Type 0) → List A → List ℕ → Type 0
+array_within most spells items bytes =
     ((items ≡ []) × (n : ℕ) × (2 ^ 31 ≤ n) × number 4 n bytes)
-    ⊎ ((length items ≤ MOST_ITEMS) × (number 4 (length items) followed_by elements spells items) bytes)
+    ⊎ ((length items ≤ most) × (number 4 (length items) followed_by elements spells items) bytes)
 
--- which code a field of so many bytes may be refused with: a byte that chooses, or a length
+abbrev pub array : {A : Type 0} → (A → List ℕ → Type 0) → List A → List ℕ → Type 0
+array spells = array_within MOST_ITEMS spells
+
+-- which code a field of so many bytes may be refused with: a byte that chooses, or a length; in values that hold others
+-- also a list of dimensions, or a value that stands too deep, before its first byte
 abbrev pub IsRefused : ℕ → ℕ → Type 0
-IsRefused code width = ((code ≡ 0x80070000) × (width ≡ 1)) ⊎ ((code ≡ 0x80080000) × (width ≡ 4))
+IsRefused code width =
+    ((code ≡ 0x80070000) × (width ≡ 1))
+    ⊎ ((code ≡ 0x80080000) × (width ≡ 4))
+    ⊎ ((code ≡ 0x80070000) × (n : ℕ) × (width ≡ 4 + n * 4))
+    ⊎ ((code ≡ 0x80080000) × (width ≡ 0))
+
+-- a choice is spelled, and the bytes end inside what follows it
+pub record CutAfter {A : Type 0} (chooses : A → List ℕ → Type 0) (cut : A → List ℕ → Type 0) (bytes : List ℕ) : Type 0 where
+  pub value : A
+  pub front : List ℕ
+  pub back : List ℕ
+  pub first : chooses value front
+  pub second : cut value back
+  pub whole : bytes ≡ front ++ back
+
+-- the bytes end inside a choice, or inside what follows it
+abbrev pub ChainCut : {A : Type 0} → (A → List ℕ → Type 0) → (List ℕ → Type 0) → (A → List ℕ → Type 0) → List ℕ → Type 0
+ChainCut chooses first second bytes = first bytes ⊎ CutAfter chooses second bytes
+
+-- the bytes end inside a field that may be left out
+abbrev pub optional_cut : Bool → (List ℕ → Type 0) → List ℕ → Type 0
+optional_cut true cut bytes = cut bytes
+optional_cut false cut bytes = ⊥
+
+-- the bytes end inside one of so many elements
+abbrev pub elements_cut : {A : Type 0} → (A → List ℕ → Type 0) → (List ℕ → Type 0) → ℕ → List ℕ → Type 0
+elements_cut spells cut zero bytes = ⊥
+elements_cut spells cut (suc n) bytes = ChainCut spells cut (λ a. elements_cut spells cut n) bytes
+
+-- the bytes end inside an array's length, or inside one of its elements
+abbrev pub array_cut : {A : Type 0} → ℕ → (A → List ℕ → Type 0) → (List ℕ → Type 0) → List ℕ → Type 0
+array_cut most spells cut bytes = ChainCut (λ n front. (n ≤ most) × number 4 n front) (λ front. length front < 4) (λ n. elements_cut spells cut n) bytes
 
 -- the bytes are the front of a spelling
 pub record Begun {A : Type 0} (spells : A → List ℕ → Type 0) (bytes : List ℕ) : Type 0 where

@@ -16,7 +16,7 @@ use Rattle.ua_values.specs.declared.extension.ExtensionBody.{ExtensionBody}
 use Rattle.ua_values.specs.declared.extension.ExtensionBody.TheVariants as extension
 use Rattle.ua_values.specs.declared.extension.BodyKind.{BodyKind}
 use Rattle.ua_values.specs.declared.extension.BodyKind.TheVariants as kind
-use Rattle.ua_values.specs.Reading.{Reader, ◌>>=◌, give, run_at, field_at, number_at}
+use Rattle.ua_values.specs.Reading.{Bad, Reader, passed, judged, ◌>>=◌, give, run_at, field_at, number_at}
 
 abbrev pub boolean_at : Reader Bool
 boolean_at = do
@@ -53,10 +53,10 @@ text_at = do
   run_of n
 
 -- negative is none, too many, or how many elements an array has
-abbrev pub count_of : ℕ → Result ℕ ℕ
-count_of n =
+abbrev pub count_of : ℕ → ℕ → Result ℕ ℕ
+count_of most n =
     if nat_le (2 ^ 31) n then Ok 0
-    else if nat_lt MOST_ITEMS n then Err 0x80080000
+    else if nat_lt most n then Err 0x80080000
     else Ok n
 
 abbrev pub elements_at : {A : Type 0} → ℕ → Reader A → Reader (List A)
@@ -66,10 +66,14 @@ elements_at (suc n) at = do
   more ← elements_at n at
   give (first ∷ more)
 
-abbrev pub array_at : {A : Type 0} → Reader A → Reader (List A)
-array_at at = do
-  n ← field_at 4 count_of
+-- an array of so many elements at most
+abbrev pub array_within_at : {A : Type 0} → ℕ → Reader A → Reader (List A)
+array_within_at most at = do
+  n ← field_at 4 (count_of most)
   elements_at n at
+
+abbrev pub array_at : {A : Type 0} → Reader A → Reader (List A)
+array_at at = array_within_at MOST_ITEMS at
 
 abbrev pub form_of : ℕ → Result Form ℕ
 form_of byte =
@@ -173,6 +177,14 @@ extension_at = do
   type_id ← node_at
   body ← body_at
   give (record { type_id = type_id; body = body })
+
+-- a value that may not stand here is refused before its first byte
+abbrev pub refused_at : {A : Type 0} → ℕ → Reader A
+refused_at code from = Err (Bad from.place code)
+
+-- what was read is judged as a whole, where it began
+abbrev pub checked_at : {A B : Type 0} → Reader A → (A → Result B ℕ) → Reader B
+checked_at at meaning from = passed (at from) (λ a. judged (meaning a) from.place)
 
 -- what a number says, or nothing where it breaks the rule of that code
 abbrev pub MeansOrNot : {A : Type 0} → Option A → Result A ℕ → ℕ → Type 0

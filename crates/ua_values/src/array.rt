@@ -1,13 +1,12 @@
 ghost use Rattle.std.specs.Prelude.{◌≡◌, ◌++◌, List, ℕ, OnOk};
 ghost use Rattle.std.specs.List.{flat_map};
 ghost use Rattle.ua_values.specs.Reading.{Moves, Reader};
-ghost use Rattle.ua_values.specs.Readers.{array_at, elements_at, text_at};
-ghost use Rattle.ua_values.specs.Written.{written_array, written_text};
+ghost use Rattle.ua_values.specs.Readers.{array_within_at, array_at, elements_at};
+ghost use Rattle.ua_values.specs.Written.{written_array};
 
 use crate::cursor::Cursor;
-use crate::fault::ValueFault;
-use crate::run::UaText;
-use crate::writing::{write_string, write_uint32};
+use crate::fault::{MOST_ITEMS, ValueFault};
+use crate::writing::write_uint32;
 use std::alloc::Global;
 use ua_base::OutOfMemory;
 
@@ -26,20 +25,6 @@ pub trait Element: Sized + Drop {
         ensures { OnOk result (to.new.items ≡ to.old.items ++ written self.now) };
 }
 
-impl Element for UaText {
-    ghost at = { text_at };
-
-    ghost written = { written_text };
-
-    fn read(alloc: Global, from: &mut Cursor<'_>) -> Result<UaText, ValueFault> {
-        from.text(alloc)
-    }
-
-    fn put(&self, to: &mut Vec<u8>) -> Result<(), OutOfMemory> {
-        write_string(self, to)
-    }
-}
-
 /// So many elements.
 fn elements<T: Element>(
     alloc: Global,
@@ -56,12 +41,23 @@ fn elements<T: Element>(
     Ok(items)
 }
 
-/// Reads an array (OPC 10000-6, 5.2.5): its length, and the elements. A negative length is an empty one.
+/// Reads an array of at most `most` elements: its length, and the elements. A negative length is an empty array.
+pub fn read_array_within<T: Element>(
+    alloc: Global,
+    most: u32,
+    from: &mut Cursor<'_>,
+) -> Result<Vec<T>, ValueFault>
+    ensures { Moves (λ items. items.items) result from.new (array_within_at most T.at from.old) }
+{
+    let count = from.count(most)?;
+    elements(alloc, count, from)
+}
+
+/// Reads an array (OPC 10000-6, 5.2.5) of at most [`MOST_ITEMS`] elements.
 pub fn read_array<T: Element>(alloc: Global, from: &mut Cursor<'_>) -> Result<Vec<T>, ValueFault>
     ensures { Moves (λ items. items.items) result from.new (array_at T.at from.old) }
 {
-    let count = from.count()?;
-    elements(alloc, count, from)
+    read_array_within(alloc, MOST_ITEMS, from)
 }
 
 fn put_elements<T: Element>(items: &[T], to: &mut Vec<u8>) -> Result<(), OutOfMemory>

@@ -5,7 +5,7 @@ ghost use Rattle.ua_values.specs.Readers.{boolean_at, signed_at, guid_at, length
 ghost use Rattle.ua_values.specs.declared.fault.ValueFault.TheVariants as faults;
 
 use crate::extension::{BodyKind, ExtensionBody, ExtensionObject};
-use crate::fault::{MOST_BYTES, MOST_ITEMS, ValueFault};
+use crate::fault::{MOST_BYTES, ValueFault};
 use crate::names::{LocalizedText, QualifiedName};
 use crate::node::{ExpandedNodeId, Form, Head, NodeId, has_bit};
 use crate::run::{UaBytes, UaText};
@@ -166,15 +166,15 @@ impl<'a> Cursor<'a> {
         }
     }
 
-    /// How many elements an array has.
-    pub(crate) fn count(&mut self) -> Result<u32, ValueFault>
-        ensures { Moves (λ n. n) result self.new (field_at 4 count_of self.old) }
+    /// How many elements an array has, which may have `most` of them: 0 where its length is negative.
+    pub fn count(&mut self, most: u32) -> Result<u32, ValueFault>
+        ensures { Moves (λ n. n) result self.new (field_at 4 (count_of most) self.old) }
     {
         let place = self.place;
         let count = self.uint32()?;
         if count >= 1 << 31 {
             Ok(0)
-        } else if count > MOST_ITEMS {
+        } else if count > most {
             Err(ValueFault::Bad {
                 place,
                 code: BAD_ENCODING_LIMITS_EXCEEDED,

@@ -1,8 +1,10 @@
-ghost use Rattle.std.specs.Prelude.{◌≡◌};
+ghost use Rattle.std.specs.Prelude.{◌≡◌, IfOk};
 ghost use Rattle.ua_values.specs.Readers.{kind_of, MeansOrNot};
 
 use crate::node::NodeId;
 use crate::run::{UaBytes, UaText};
+use std::alloc::Global;
+use ua_base::OutOfMemory;
 
 /// A structure of a type that `type_id` names, as it came (OPC 10000-6, 5.2.2.15).
 #[derive(Debug, Drop)]
@@ -20,6 +22,29 @@ pub enum ExtensionBody {
     Binary(UaBytes),
     /// Its XML encoding.
     Xml(UaText),
+}
+
+impl ExtensionBody {
+    fn copy(&self, alloc: Global) -> Result<ExtensionBody, OutOfMemory>
+        ensures { IfOk result (λ copied. copied ≡ self.now) }
+    {
+        match self {
+            ExtensionBody::Absent => Ok(ExtensionBody::Absent),
+            ExtensionBody::Binary(bytes) => Ok(ExtensionBody::Binary(bytes.copy(alloc)?)),
+            ExtensionBody::Xml(text) => Ok(ExtensionBody::Xml(text.copy(alloc)?)),
+        }
+    }
+}
+
+impl ExtensionObject {
+    /// The same object once more.
+    pub fn copy(&self, alloc: Global) -> Result<ExtensionObject, OutOfMemory>
+        ensures { IfOk result (λ copied. copied ≡ self.now) }
+    {
+        let type_id = self.type_id.copy(alloc)?;
+        let body = self.body.copy(alloc)?;
+        Ok(ExtensionObject { type_id, body })
+    }
 }
 
 /// How the body stands in bytes.

@@ -3,6 +3,7 @@
 
 mod array;
 mod cursor;
+mod element;
 mod extension;
 mod fault;
 mod laws;
@@ -14,7 +15,7 @@ mod run;
 mod tests;
 mod writing;
 
-pub use array::{Element, put_array, read_array};
+pub use array::{Element, put_array, read_array, read_array_within};
 pub use cursor::Cursor;
 pub use extension::{ExtensionBody, ExtensionObject};
 pub use fault::{MOST_BYTES, MOST_ITEMS, ValueFault};

@@ -1,9 +1,11 @@
-ghost use Rattle.std.specs.Prelude.{◌≡◌, ◌<◌, ◌^◌};
+ghost use Rattle.std.specs.Prelude.{◌≡◌, ◌<◌, ◌^◌, IfOk};
 ghost use Rattle.ua_values.specs.Readers.{form_of, has_bit, head_of, MeansOrNot};
 ghost use Rattle.ua_values.specs.Types.{form_byte};
 ghost use Rattle.ua_values.specs.Written.{shortest_number, shortest};
 
 use crate::run::{UaBytes, UaText};
+use std::alloc::Global;
+use ua_base::OutOfMemory;
 use uuid::Uuid;
 
 /// What names a node of an address space (OPC 10000-3, 8.2): a namespace's index, and a name there of one of four kinds.
@@ -17,6 +19,32 @@ pub enum NodeId {
     Guid { namespace: u16, id: Uuid },
     /// Bytes that mean something to the server alone.
     Opaque { namespace: u16, id: UaBytes },
+}
+
+impl NodeId {
+    /// The same name once more.
+    pub fn copy(&self, alloc: Global) -> Result<NodeId, OutOfMemory>
+        ensures { IfOk result (λ copied. copied ≡ self.now) }
+    {
+        match self {
+            NodeId::Numeric { namespace, id } => Ok(NodeId::Numeric {
+                namespace: *namespace,
+                id: *id,
+            }),
+            NodeId::Text { namespace, id } => Ok(NodeId::Text {
+                namespace: *namespace,
+                id: id.copy(alloc)?,
+            }),
+            NodeId::Guid { namespace, id } => Ok(NodeId::Guid {
+                namespace: *namespace,
+                id: *id,
+            }),
+            NodeId::Opaque { namespace, id } => Ok(NodeId::Opaque {
+                namespace: *namespace,
+                id: id.copy(alloc)?,
+            }),
+        }
+    }
 }
 
 /// A node of some server (OPC 10000-4, 7.16): where `uri` is not null it names the namespace in place of the index,

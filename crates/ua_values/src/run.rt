@@ -1,7 +1,9 @@
-ghost use Rattle.std.specs.Prelude.{◌≡◌, Some, None, option_map};
+ghost use Rattle.std.specs.Prelude.{◌≡◌, Some, None, option_map, IfOk};
 ghost use Rattle.std.specs.Option.{is_none, option_copied};
 
+use std::alloc::Global;
 use std::marker::Model;
+use ua_base::OutOfMemory;
 
 /// Bytes that stand behind a length.
 #[derive(Debug, Drop)]
@@ -15,6 +17,15 @@ impl Model for Run {
     ghost Value = { List ℕ };
 
     ghost view = { λ r. r.bytes.items };
+}
+
+impl Run {
+    fn copy(&self, alloc: Global) -> Result<Run, OutOfMemory>
+        ensures { IfOk result (λ copied. copied ≡ self.now) }
+    {
+        let bytes = Vec::from_slice(alloc, &self.bytes)?;
+        Ok(Run { bytes })
+    }
 }
 
 /// A String or an XmlElement (OPC 10000-6, 5.2.2.4): null, or bytes. They are UTF-8 where a peer keeps the rules; nothing here looks.
@@ -82,6 +93,18 @@ impl UaText {
     {
         self.run.map(|run| run.bytes)
     }
+
+    /// The same text once more.
+    pub fn copy(&self, alloc: Global) -> Result<UaText, OutOfMemory>
+        ensures { IfOk result (λ copied. copied ≡ self.now) }
+    {
+        match &self.run {
+            None => Ok(UaText { run: None }),
+            Some(run) => Ok(UaText {
+                run: Some(run.copy(alloc)?),
+            }),
+        }
+    }
 }
 
 impl UaBytes {
@@ -120,5 +143,17 @@ impl UaBytes {
         ensures { option_map (λ bytes. bytes.items) result ≡ self }
     {
         self.run.map(|run| run.bytes)
+    }
+
+    /// The same ByteString once more.
+    pub fn copy(&self, alloc: Global) -> Result<UaBytes, OutOfMemory>
+        ensures { IfOk result (λ copied. copied ≡ self.now) }
+    {
+        match &self.run {
+            None => Ok(UaBytes { run: None }),
+            Some(run) => Ok(UaBytes {
+                run: Some(run.copy(alloc)?),
+            }),
+        }
     }
 }

@@ -391,5 +391,35 @@ fn arrays_are_read_and_written(rt: HostRuntime) -> Result<(), Fail> {
     let none = bytes_of(&rt, rt.alloc(), "00000080")?;
     let empty: Vec<UaText> = read_array(rt.alloc(), &mut Cursor::new(&none))?;
     assert_eq!(rt; empty.len(), 0);
+    let three = bytes_of(&rt, rt.alloc(), "03000000010203")?;
+    let numbers: Vec<u8> = read_array_within(rt.alloc(), 3, &mut Cursor::new(&three))?;
+    assert_eq!(rt; numbers.as_slice(), [1u8, 2, 3].as_slice());
+    let fault = read_array_within::<u8>(rt.alloc(), 2, &mut Cursor::new(&three)).err();
+    assert_eq!(rt;
+        fault,
+        Some(ValueFault::Bad {
+            place: 0,
+            code: 0x8008_0000
+        })
+    );
+    Ok(())
+}
+
+#[test]
+fn copies_are_equal(rt: HostRuntime) -> Result<(), Fail> {
+    let objects = [
+        "005500",
+        "0102030001030000006b6579",
+        "03010003000000616263020100000078",
+        "040100000102030405060708090a0b0c0d0e0f01ffffffff",
+        "050200ffffffff0100000000",
+    ];
+    for text in objects {
+        let bytes = bytes_of(&rt, rt.alloc(), text)?;
+        let (object, _) = read_extension_object(rt.alloc(), &bytes)?;
+        let mut to = Vec::new(rt.alloc());
+        write_extension_object(&object.copy(rt.alloc())?, &mut to)?;
+        assert_eq!(rt; to.as_slice(), bytes.as_slice());
+    }
     Ok(())
 }
