@@ -1,0 +1,16 @@
+//! The nodes of a server of a redundant set, and what its ServiceLevel says of it (OPC 10000-4, 6.6.2).
+#![tactic(auto)]
+
+mod class;
+mod current;
+mod laws;
+mod member;
+mod node;
+#[cfg(test)]
+mod tests;
+mod texts;
+
+pub use class::{Class, class_of};
+pub use current::CurrentChanges;
+pub use laws::classes_part_the_levels;
+pub use member::{Member, Members};
