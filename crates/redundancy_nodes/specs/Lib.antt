@@ -1,3 +1,4 @@
 pub mod Class
 pub mod Node
+pub mod Read
 pub mod Texts

@@ -1,5 +1,6 @@
 -- The nodes that have a value (OPC 10000-6, A.3, gives the numbers of namespace 0).
-use Rattle.std.specs.Prelude.{ℕ, ◌==◌, ◌&&◌, nat_lt, nat_le, Option, Some, None, if◌then◌else◌}
+use Rattle.std.specs.Prelude.{◌≡◌, ◌≤◌, ◌⊎◌, ℕ, ◌==◌, ◌&&◌, nat_lt, nat_le, List, [], ◌∷◌, true, Option, Some, None, if◌then◌else◌}
+use Rattle.std.specs.List.{list_any}
 use Rattle.ua_values.specs.declared.node.NodeId.{NodeId}
 use Rattle.ua_values.specs.declared.node.NodeId.TheVariants as id
 use Rattle.redundancy_nodes.specs.declared.node.Node.{Node}
@@ -34,3 +35,15 @@ node_of items (id.Numeric namespace number) = numeric_node items namespace numbe
 node_of items (id.Text namespace name) = None
 node_of items (id.Guid namespace name) = None
 node_of items (id.Opaque namespace name) = None
+
+-- the numbers of namespace 0 that have a value
+abbrev pub server_numbers : List ℕ
+server_numbers = 2254 ∷ 2255 ∷ 2257 ∷ 2258 ∷ 2259 ∷ 2267 ∷ 3709 ∷ 11314 ∷ []
+
+-- an id of one of these, or of one of so many items
+abbrev pub HasValue : ℕ → NodeId → Type 0
+HasValue items (id.Numeric namespace number) =
+    ((namespace ≡ 0) × (list_any (λ known. number == known) server_numbers ≡ true)) ⊎ ((namespace ≡ 2) × (1 ≤ number) × (number ≤ items))
+HasValue items (id.Text namespace name) = ⊥
+HasValue items (id.Guid namespace name) = ⊥
+HasValue items (id.Opaque namespace name) = ⊥

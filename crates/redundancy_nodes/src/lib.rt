@@ -6,11 +6,13 @@ mod current;
 mod laws;
 mod member;
 mod node;
+mod nodes;
 #[cfg(test)]
 mod tests;
 mod texts;
 
 pub use class::{Class, class_of};
 pub use current::CurrentChanges;
-pub use laws::classes_part_the_levels;
+pub use laws::{classes_part_the_levels, nodes_are_known};
 pub use member::{Member, Members};
+pub use nodes::{NodeFault, Nodes, VALUE};
