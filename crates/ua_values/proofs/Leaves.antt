@@ -222,7 +222,7 @@ field_reads w meaning rules = record {
 
 -- ---- any number
 
-number_field : (w : ℕ) → zero < w → IsField w any
+pub number_field : (w : ℕ) → zero < w → IsField w any
 number_field w some = record {
   some = some;
   completes = λ front lt. record {

@@ -168,24 +168,24 @@ text_codec = same (Chained (field 4 length_of) run_text) text text_at
 abbrev fine : {A : Type 0} → A → Result A ℕ
 fine a = Ok a
 
-fine_is : {A : Type 0} (a b : A) → fine a ≡ fine b → a ≡ b
+pub fine_is : {A : Type 0} (a b : A) → fine a ≡ fine b → a ≡ b
 fine_is a b e = cc
 
-failed_not : {A : Type 0} (x : A) (c : ℕ) → ◌≡◌ {A = Result A ℕ} (Err c) (Ok x) → ⊥
+pub failed_not : {A : Type 0} (x : A) (c : ℕ) → ◌≡◌ {A = Result A ℕ} (Err c) (Ok x) → ⊥
 failed_not x c e = cc
 
-err_is : {A : Type 0} (c d : ℕ) → ◌≡◌ {A = Result A ℕ} (Err c) (Err d) → c ≡ d
+pub err_is : {A : Type 0} (c d : ℕ) → ◌≡◌ {A = Result A ℕ} (Err c) (Err d) → c ≡ d
 err_is c d e = cc
 
-met : {K : Type 0} (byte : K → ℕ) (n k : ℕ) (a x : K) (r : Result K ℕ) → byte a ≡ k → (r ≡ Ok x → n ≡ byte x) → (b : Bool) → eqb n k ≡ b → cond b (Ok a) r ≡ Ok x → n ≡ byte x
+pub met : {K : Type 0} (byte : K → ℕ) (n k : ℕ) (a x : K) (r : Result K ℕ) → byte a ≡ k → (r ≡ Ok x → n ≡ byte x) → (b : Bool) → eqb n k ≡ b → cond b (Ok a) r ≡ Ok x → n ≡ byte x
 met byte n k a x r is others true test e = eqb-true n k test ∙ sym is ∙ ap byte (fine_is a x e)
 met byte n k a x r is others false test e = others e
 
 -- one test of a chain of them: it is met, and the byte is that of the choice, or the others are left
-tested : {K : Type 0} (byte : K → ℕ) (n k : ℕ) (a x : K) (r : Result K ℕ) → byte a ≡ k → (r ≡ Ok x → n ≡ byte x) → cond (eqb n k) (Ok a) r ≡ Ok x → n ≡ byte x
+pub tested : {K : Type 0} (byte : K → ℕ) (n k : ℕ) (a x : K) (r : Result K ℕ) → byte a ≡ k → (r ≡ Ok x → n ≡ byte x) → cond (eqb n k) (Ok a) r ≡ Ok x → n ≡ byte x
 tested byte n k a x r is others e = met byte n k a x r is others (eqb n k) refl e
 
-refused : {A : Type 0} (b : Bool) (a : A) (r : Result A ℕ) (c : ℕ) → cond b (Ok a) r ≡ Err c → r ≡ Err c
+pub refused : {A : Type 0} (b : Bool) (a : A) (r : Result A ℕ) (c : ℕ) → cond b (Ok a) r ≡ Err c → r ≡ Err c
 refused true a r c e = absurd cc
 refused false a r c e = e
 
@@ -213,7 +213,7 @@ form_says form.Guid = refl
 form_says form.Opaque = refl
 
 -- a byte that chooses is cut off only where nothing of it is there
-cut_byte : {A : Type 0} (meaning : ℕ → Result A ℕ) (a : A) (n : ℕ) → meaning (little_number 1 (n ∷ [])) ≡ Ok a → (front : List ℕ) → length front < 1 → Completed 1 meaning front
+pub cut_byte : {A : Type 0} (meaning : ℕ → Result A ℕ) (a : A) (n : ℕ) → meaning (little_number 1 (n ∷ [])) ≡ Ok a → (front : List ℕ) → length front < 1 → Completed 1 meaning front
 cut_byte meaning a n means [] lt = record { more = n ∷ []; long = refl; value = a; means = means }
 cut_byte meaning a n means (b ∷ bs) lt = absurd (omega arith)
 
