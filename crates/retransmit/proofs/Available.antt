@@ -1,12 +1,12 @@
 -- What is given for a number, by the calls so far.
-use Rattle.std.proofs.Common.{◌≡◌, ℕ, zero, suc, ◌+◌, ◌-◌, ◌≤◌, ◌<◌, max, List, [], ◌∷◌, ◌++◌, Bool, true, false, not, ◌&&◌, ◌==◌, nat_lt, length, take, drop, Option, Some, None, refl, sym, ◌∙◌, ap, ap₂, subst, arith, cond}
+use Rattle.std.proofs.Common.{◌≡◌, ℕ, zero, suc, ◌+◌, ◌-◌, ◌≤◌, ◌<◌, max, List, [], ◌∷◌, ◌++◌, Bool, true, false, not, ◌&&◌, ◌==◌, nat_lt, length, take, drop, filter, Option, Some, None, refl, sym, ◌∙◌, ap, ap₂, subst, arith, cond}
 use Rattle.std.specs.Prelude.{reverse, if◌then◌else◌}
-use Rattle.std.proofs.lemmas.List.{reverse-append, drop-append-le, length_push}
+use Rattle.std.proofs.lemmas.List.{reverse-append, drop-append-le, length_push, length-reverse}
 use Rattle.std.proofs.lemmas.Bool.Decides.{nat_tests}
 use Rattle.retransmit.specs.declared.retransmission.Sent.{Sent}
 use Rattle.retransmit.specs.Kept.{without, message_of, with_sent}
 use Rattle.retransmit.specs.History.{Call, Send, Acknowledge, others, kept_after, last_sent, acknowledged, waiting_since, most_waiting, available, sendings_since}
-use Rattle.retransmit.proofs.Newest.{newest, kept-newest}
+use Rattle.retransmit.proofs.Newest.{newest, kept-newest, filter-reverse}
 
 -- the numbers that stand before this one
 abbrev pub before : {M : Type 0} → ℕ → List (Sent M) → List ℕ
@@ -177,6 +177,38 @@ given-reverse : {M : Type 0} (number : ℕ) (kept : List (Sent M)) → AreOnce k
 given-reverse number [] each = refl
 given-reverse number (sent ∷ kept) each =
     ap (message_of number) (reverse-append (sent ∷ []) kept) ∙ given-reverse_by _ number sent kept refl each.0 (given-reverse number kept each.1)
+
+-- of each number there is one message at the most
+none_of_by : {M : Type 0} (b : Bool) (number : ℕ) (sent : Sent M) (kept : List (Sent M)) → (sent.number == number) ≡ b
+    → (message_of number kept ≡ None → length (filter (λ other. other.number == number) kept) ≡ 0)
+    → message_of number (sent ∷ kept) ≡ None → length (filter (λ other. other.number == number) (sent ∷ kept)) ≡ 0
+none_of_by true number sent kept is h none = let some : Some sent.message ≡ None = sym (first_given number sent kept is) ∙ none in absurd cc
+none_of_by false number sent kept is h none = rw is (h (sym (rest_given number sent kept is) ∙ none))
+
+none_of : {M : Type 0} (number : ℕ) (kept : List (Sent M)) → message_of number kept ≡ None → length (filter (λ sent. sent.number == number) kept) ≡ 0
+none_of number [] none = refl
+none_of number (sent ∷ kept) none = none_of_by _ number sent kept refl (none_of number kept) none
+
+one_of_by : {M : Type 0} (b : Bool) (number : ℕ) (sent : Sent M) (kept : List (Sent M)) → (sent.number == number) ≡ b → Once sent kept
+    → length (filter (λ other. other.number == number) kept) ≤ 1 → length (filter (λ other. other.number == number) (sent ∷ kept)) ≤ 1
+one_of_by true number sent kept is once h =
+    let same : sent.number ≡ number = grind (arith, nat_tests) in
+    let none = none_of number kept (ap (λ n. message_of n kept) (sym same) ∙ once.here) in
+    rw is (omega arith)
+one_of_by false number sent kept is once h = rw is h
+
+one_of : {M : Type 0} (number : ℕ) (kept : List (Sent M)) → AreOnce kept → length (filter (λ sent. sent.number == number) kept) ≤ 1
+one_of number [] each = omega arith
+one_of number (sent ∷ kept) each = one_of_by _ number sent kept refl each.0 (one_of number kept each.1)
+
+pub one_kept : {M : Type 0} (number : ℕ) (history : List (Call M)) → length (filter (λ sent. sent.number == number) (kept_after history)) ≤ 1
+one_kept number history =
+    let same : length (filter (λ sent. sent.number == number) (kept_after history)) ≡ length (filter (λ sent. sent.number == number) (newest history)) =
+    ap (λ kept. length (filter (λ sent. sent.number == number) kept)) (kept-newest history)
+    ∙ ap length (filter-reverse (λ sent. sent.number == number) (newest history))
+    ∙ length-reverse (filter (λ sent. sent.number == number) (newest history)) in
+    let one = one_of number (newest history) (once_newest history) in
+    omega arith
 
 -- the newest messages give what the calls say, and before a number that is kept stand those that wait since
 pub record Tells {M : Type 0} (number : ℕ) (history : List (Call M)) : Type 0 where

@@ -1,5 +1,5 @@
 -- The kept messages with the newest first, where a recursion over the calls has the newest message at hand.
-use Rattle.std.proofs.Common.{◌≡◌, ℕ, zero, suc, ◌-◌, ◌≤◌, min, List, [], ◌∷◌, ◌++◌, Bool, true, false, not, ◌==◌, length, take, drop, refl, sym, ◌∙◌, ap, arith, ⊎_elim}
+use Rattle.std.proofs.Common.{◌≡◌, ℕ, zero, suc, ◌-◌, ◌≤◌, min, List, [], ◌∷◌, ◌++◌, Bool, true, false, not, ◌==◌, filter, length, take, drop, refl, sym, ◌∙◌, ap, arith, ⊎_elim}
 use Rattle.std.specs.Prelude.{reverse}
 use Rattle.std.proofs.lemmas.List.{append-nil, reverse-append, length-reverse, length-take, length-drop, take-append-drop, drop_at, take_all, take-take}
 use Rattle.std.proofs.lemmas.List.Elements.{filter-append}
@@ -15,18 +15,21 @@ newest (Acknowledge number ∷ earlier) = without number (newest earlier)
 reverse_first : {A : Type 0} (x : A) (xs : List A) → reverse (x ∷ xs) ≡ reverse xs ++ x ∷ []
 reverse_first x xs = reverse-append (x ∷ []) xs
 
-without-reverse_by : {M : Type 0} (b : Bool) (number : ℕ) (sent : Sent M) (kept : List (Sent M)) → (sent.number == number) ≡ b
-    → reverse (without number kept) ++ without number (sent ∷ []) ≡ reverse (without number (sent ∷ kept))
-without-reverse_by true number sent kept is = rw is (append-nil (reverse (without number kept)))
-without-reverse_by false number sent kept is = rw is (sym (reverse_first sent (without number kept)))
+filter-reverse_by : {A : Type 0} (b : Bool) (p : A → Bool) (x : A) (xs : List A) → p x ≡ b
+    → reverse (filter p xs) ++ filter p (x ∷ []) ≡ reverse (filter p (x ∷ xs))
+filter-reverse_by true p x xs is = rw is (sym (reverse_first x (filter p xs)))
+filter-reverse_by false p x xs is = rw is (append-nil (reverse (filter p xs)))
 
-pub without-reverse : {M : Type 0} (number : ℕ) (kept : List (Sent M)) → without number (reverse kept) ≡ reverse (without number kept)
-without-reverse number [] = refl
-without-reverse number (sent ∷ kept) =
-    ap (without number) (reverse_first sent kept)
-    ∙ filter-append (λ other. not (other.number == number)) (reverse kept) (sent ∷ [])
-    ∙ ap (λ xs. xs ++ without number (sent ∷ [])) (without-reverse number kept)
-    ∙ without-reverse_by _ number sent kept refl
+pub filter-reverse : {A : Type 0} (p : A → Bool) (xs : List A) → filter p (reverse xs) ≡ reverse (filter p xs)
+filter-reverse p [] = refl
+filter-reverse p (x ∷ xs) =
+    ap (filter p) (reverse_first x xs)
+    ∙ filter-append p (reverse xs) (x ∷ [])
+    ∙ ap (λ ys. ys ++ filter p (x ∷ [])) (filter-reverse p xs)
+    ∙ filter-reverse_by _ p x xs refl
+
+without-reverse : {M : Type 0} (number : ℕ) (kept : List (Sent M)) → without number (reverse kept) ≡ reverse (without number kept)
+without-reverse number kept = filter-reverse (λ sent. not (sent.number == number)) kept
 
 -- the last ones are the first ones of the reverse
 last-reverse : {M : Type 0} (count : ℕ) (kept : List (Sent M)) → last_ones count (reverse kept) ≡ reverse (take count kept)

@@ -2,7 +2,8 @@
 use Rattle.std.proofs.Common.{◌≡◌, ℕ, zero, suc, ◌+◌, ◌<◌, List, [], ◌∷◌, ◌++◌, Bool, true, false, ◌==◌, length, take, drop, refl, sym, ◌∙◌, ap, arith}
 use Rattle.std.proofs.lemmas.List.{append_assoc, append-nil}
 use Rattle.retransmit.specs.declared.retransmission.Sent.{Sent}
-use Rattle.retransmit.specs.Kept.{turned, without}
+use Rattle.retransmit.specs.Kept.{without}
+use Rattle.retransmit.specs.Turn.{turned}
 
 -- the first of a list, and a list behind it
 turned_first : {M : Type 0} (b : Bool) (number : ℕ) (sent : Sent M) (kept behind : List (Sent M)) → (sent.number == number) ≡ b

@@ -11,11 +11,6 @@ module _ {M : Type 0} where
   abbrev pub without : ℕ → List (Sent M) → List (Sent M)
   without number kept = filter (λ sent. not (sent.number == number)) kept
 
-  -- the first of them moved to the end, or out where it is of this number
-  abbrev pub turned : ℕ → List (Sent M) → List (Sent M)
-  turned number [] = []
-  turned number (sent ∷ kept) = if sent.number == number then kept else kept ++ sent ∷ []
-
   -- a message that is sent takes the place of the one of its number, and stands last among the last 64
   abbrev pub with_sent : ℕ → M → List (Sent M) → List (Sent M)
   with_sent number message kept = last_ones 64 (without number kept ++ record { number = number; message = message } ∷ [])

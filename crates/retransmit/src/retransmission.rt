@@ -1,6 +1,7 @@
 ghost use Rattle.std.specs.Prelude.{◌≡◌, ◌≤◌, ◌↔◌, [], ◌∷◌, ◌++◌, Some, None, length, filter, not, ◌==◌, option_copied, IfOk, IsOk, IsErr, OnOk, OnErr};
 ghost use Rattle.circular_buffer.specs.Buffer.{buffer};
-ghost use Rattle.retransmit.specs.Kept.{message_of, numbers_of, turned, with_sent, without};
+ghost use Rattle.retransmit.specs.Kept.{message_of, numbers_of, with_sent, without};
+ghost use Rattle.retransmit.specs.Turn.{turned};
 
 use circular_buffer::HeapCircularBuffer;
 use std::alloc::Global;
