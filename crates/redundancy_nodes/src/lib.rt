@@ -10,6 +10,7 @@ mod nodes;
 #[cfg(test)]
 mod tests;
 mod texts;
+mod values;
 
 pub use class::{Class, class_of};
 pub use current::CurrentChanges;
