@@ -1,10 +1,15 @@
 -- Which ids have a value.
 use Rattle.std.proofs.Common.{◌≡◌, ℕ, ◌≤◌, Bool, true, false, ◌||◌, ◌&&◌, ◌==◌, nat_lt, nat_le, Option, Some, None, is_some, refl, sym, ◌∙◌, ap, inl, inr, ⊎_elim, arith}
-use Rattle.std.specs.Prelude.{IsSome, ◌↔◌, if◌then◌else◌}
+use Rattle.std.specs.Prelude.{IsOk, IsSome, ◌≢◌, Err, ◌↔◌, if◌then◌else◌}
 use Rattle.std.specs.List.{list_any}
 use Rattle.std.proofs.lemmas.Bool.Decides.{nat_tests}
 use Rattle.ua_values.specs.declared.node.NodeId.{NodeId}
 use Rattle.ua_values.specs.declared.node.NodeId.TheVariants as id
+use Rattle.std.proofs.lemmas.Bool.{ne_eqb}
+use Rattle.ua_base.specs.declared.status.TheConstants.{BAD_NODE_ID_UNKNOWN, BAD_ATTRIBUTE_ID_INVALID}
+use Rattle.redundancy_nodes.specs.declared.node.Node.{Node}
+use Rattle.redundancy_nodes.specs.declared.nodes.Nodes.{Nodes}
+use Rattle.redundancy_nodes.specs.Read.{checked_node, read_checked, read_of}
 use Rattle.redundancy_nodes.specs.Node.{server_node, item_node, numeric_node, node_of, server_numbers, HasValue}
 
 some_else : {A : Type 0} (b : Bool) (x : A) (o : Option A) (rest : Bool) → is_some o ≡ rest → is_some (if b then Some x else o) ≡ (b || rest)
@@ -60,3 +65,27 @@ known items (id.Numeric namespace number) = numeric_by _ _ items namespace numbe
 known items (id.Text namespace name) = (λ some. absurd cc, λ none. absurd none)
 known items (id.Guid namespace name) = (λ some. absurd cc, λ none. absurd none)
 known items (id.Opaque namespace name) = (λ some. absurd cc, λ none. absurd none)
+
+-- the answers, by whether there is such a node
+refused_by : (nodes : Nodes) (attribute : ℕ) (o : Option Node) → (IsSome o → ⊥) → read_checked nodes (checked_node attribute o) ≡ Err BAD_NODE_ID_UNKNOWN
+refused_by nodes attribute None none = refl
+refused_by nodes attribute (Some node) none = absurd (none refl)
+
+pub refused : (nodes : Nodes) (i : NodeId) (attribute : ℕ) → (HasValue nodes.items i → ⊥) → read_of nodes i attribute ≡ Err BAD_NODE_ID_UNKNOWN
+refused nodes i attribute none = refused_by nodes attribute (node_of nodes.items i) (λ some. none ((known nodes.items i).0 some))
+
+not_read_by : (nodes : Nodes) (attribute : ℕ) (o : Option Node) → IsSome o → (attribute == 13) ≡ false
+    → read_checked nodes (checked_node attribute o) ≡ Err BAD_ATTRIBUTE_ID_INVALID
+not_read_by nodes attribute None some is = absurd cc
+not_read_by nodes attribute (Some node) some is = rw is refl
+
+pub not_read : (nodes : Nodes) (i : NodeId) (attribute : ℕ) → HasValue nodes.items i → attribute ≢ 13 → read_of nodes i attribute ≡ Err BAD_ATTRIBUTE_ID_INVALID
+not_read nodes i attribute has other =
+    not_read_by nodes attribute (node_of nodes.items i) ((known nodes.items i).1 has) (ne_eqb attribute 13 other)
+
+read_by : (nodes : Nodes) (o : Option Node) → IsSome o → IsOk (read_checked nodes (checked_node 13 o))
+read_by nodes None some = absurd cc
+read_by nodes (Some node) some = refl
+
+pub is_read : (nodes : Nodes) (i : NodeId) → HasValue nodes.items i → IsOk (read_of nodes i 13)
+is_read nodes i has = read_by nodes (node_of nodes.items i) ((known nodes.items i).1 has)

@@ -1,9 +1,10 @@
 -- What a read of a node answers.
-use Rattle.std.specs.Prelude.{◌≡◌, ℕ, ◌==◌, Option, Some, None, Result, Ok, Err, if◌then◌else◌}
+use Rattle.std.specs.Prelude.{◌≡◌, ℕ, ◌==◌, List, Option, Some, None, Result, Ok, Err, if◌then◌else◌}
 use Rattle.ua_base.specs.declared.status.TheConstants.{BAD_NODE_ID_UNKNOWN, BAD_ATTRIBUTE_ID_INVALID}
 use Rattle.ua_values.specs.declared.node.NodeId.{NodeId}
 use Rattle.ua_variants.specs.declared.variant.Variant.{Variant}
 use Rattle.ua_variants.specs.declared.variant.Stamped.{Stamped}
+use Rattle.ua_variants.specs.Spelling.{written_data_value}
 use Rattle.redundancy_nodes.specs.declared.node.Node.{Node}
 use Rattle.redundancy_nodes.specs.declared.nodes.Nodes.{Nodes}
 use Rattle.redundancy_nodes.specs.declared.nodes.NodeFault.{NodeFault}
@@ -33,3 +34,7 @@ abbrev pub Reads : Result (Stamped Variant) NodeFault → Result (Stamped Varian
 Reads (Ok value) read = read ≡ Ok value
 Reads (Err (fault.Code code)) read = read ≡ Err code
 Reads (Err fault.OutOfMemory) read = Unit {0}
+
+-- a read of the node of this id answers with a DataValue of these bytes (OPC 10000-6, 5.2.2.17)
+abbrev pub Sends : Nodes → NodeId → List ℕ → Type 0
+Sends nodes id bytes = (value : Stamped Variant) × (read_of nodes id 13 ≡ Ok value) × (written_data_value value ≡ bytes)
