@@ -1,6 +1,6 @@
 -- What the values of nodes are as bytes.
-use Rattle.std.proofs.Common.{◌≡◌, ℕ, ℤ, pos, ◌+◌, ◌^◌, ◌≤◌, ◌<◌, ◌%◌, ◌/◌, Bool, true, ◌&&◌, nat_lt, nat_le, List, [], ◌∷◌, ◌++◌, Option, Some, None, Ok, refl, sym, ◌∙◌, ap, arith}
-use Rattle.std.specs.Int.{w32, w64, bytes_low_first}
+use Rattle.std.proofs.Common.{◌≡◌, ℕ, ℤ, pos, ◌^◌, ◌≤◌, ◌<◌, ◌%◌, ◌/◌, true, ◌&&◌, nat_lt, nat_le, List, [], ◌∷◌, ◌++◌, Option, Some, None, Ok, refl, ◌∙◌, ap, arith}
+use Rattle.std.specs.Int.{w32, w64}
 use Rattle.std.proofs.lemmas.List.{append-nil}
 use Rattle.std.proofs.lemmas.Bool.Decides.{nat_tests}
 use Rattle.set_model.specs.Source.{last_of}
@@ -9,11 +9,10 @@ use Rattle.redundancy_nodes.specs.declared.nodes.Nodes.{Nodes}
 use Rattle.redundancy_nodes.specs.Read.{read_of}
 use Rattle.set_model.specs.declared.source.Change.{Change}
 use Rattle.ua_values.specs.Written.{written_array, written_signed, written_text}
-use Rattle.ua_variants.specs.declared.variant.Scalar.{Scalar}
 use Rattle.ua_variants.specs.declared.variant.Scalar.TheVariants as scalar
 use Rattle.ua_variants.specs.declared.variant.Variant.{Variant}
 use Rattle.ua_variants.specs.declared.variant.Variant.TheVariants as variant
-use Rattle.ua_variants.specs.Spelling.{written_variant, written_data_value, written_scalar}
+use Rattle.ua_variants.specs.Spelling.{written_variant, written_data_value}
 use Rattle.ua_variants.specs.declared.variant.Array.TheVariants as array
 use Rattle.ua_variants.proofs.Layers.{written_one, written_many}
 use Rattle.redundancy_nodes.specs.Values.{timeless, texts_value, item_value}

@@ -3,9 +3,10 @@ use set_model::Change;
 use std::alloc::Global;
 use std::process::Abort;
 use std::test::Fail;
+use ua_base::OutOfMemory;
 use ua_base::status::{BAD_ATTRIBUTE_ID_INVALID, BAD_NODE_ID_UNKNOWN};
 use ua_values::{NodeId, UaBytes, UaText};
-use ua_variants::write_data_value;
+use ua_variants::{DataValue, write_data_value};
 use uuid::Uuid;
 
 #[test]
@@ -56,22 +57,26 @@ fn nodes_of(alloc: Global) -> Result<Nodes, Fail> {
     })
 }
 
-/// The bytes of what is read at a numeric id.
-fn bytes_of(
+fn bytes_of(alloc: Global, value: &DataValue) -> Result<Vec<u8>, OutOfMemory> {
+    let mut bytes = Vec::new(alloc);
+    write_data_value(value, &mut bytes)?;
+    Ok(bytes)
+}
+
+/// The bytes of a value that was read, and none for a fault.
+fn bytes_of_read(
     alloc: Global,
-    nodes: &Nodes,
-    namespace: u16,
-    id: u32,
-) -> Result<Result<Vec<u8>, NodeFault>, Fail> {
-    let id = NodeId::Numeric { namespace, id };
-    Ok(match nodes.read_node(alloc, &id, VALUE) {
-        Err(fault) => Err(fault),
-        Ok(value) => {
-            let mut bytes = Vec::new(alloc);
-            write_data_value(&value, &mut bytes)?;
-            Ok(bytes)
-        }
-    })
+    read: &Result<DataValue, NodeFault>,
+) -> Result<Vec<u8>, OutOfMemory> {
+    match read {
+        Ok(value) => bytes_of(alloc, value),
+        Err(_) => Ok(Vec::new(alloc)),
+    }
+}
+
+/// The bytes of a node's value, and none for a fault.
+fn read_bytes(alloc: Global, nodes: &Nodes, id: &NodeId) -> Result<Vec<u8>, OutOfMemory> {
+    bytes_of_read(alloc, &nodes.read_node(alloc, id, VALUE))
 }
 
 #[test]
@@ -104,11 +109,9 @@ fn each_node_has_its_value(rt: HostRuntime) -> Result<(), Fail> {
         ),
     ];
     for (namespace, id, want) in rows {
-        match bytes_of(alloc, &nodes, namespace, id)? {
-            Ok(bytes) => assert_eq!(rt; bytes.as_slice(), want, "of {namespace}, {id}"),
-            Err(fault) => assert!(rt; false, "{namespace}, {id}: {fault}"),
-        }
         let id = NodeId::Numeric { namespace, id };
+        let bytes = read_bytes(alloc, &nodes, &id)?;
+        assert_eq!(rt; bytes.as_slice(), want);
         for attribute in [0, 1, 12, 14, u32::MAX] {
             assert_fault(&rt, &nodes, alloc, &id, attribute, BAD_ATTRIBUTE_ID_INVALID);
         }
