@@ -51,6 +51,6 @@ fault_shown bytes old new before after (frames.Bad place code) f begins fed is =
     let some : fault_of (framed 0 bytes).rest ≡ Some code = sym s.fault ∙ ap (λ (g : Framing). fault_of g.held) (sym same) ∙ fed.2 in
     let at : (framed 0 bytes).place ≡ place = sym s.place ∙ ap (λ (g : Framing). g.place) (sym same) ∙ fed.3 in
     subst (λ (g : ShowFault). IsShownFault g (shown_stream bytes)) (sym is)
-      (split_err (fault_of (framed 0 bytes).rest) (framed 0 bytes) code some ∙ ap (λ (n : ℕ). Err (refusal n code)) at)
+    (split_err (fault_of (framed 0 bytes).rest) (framed 0 bytes) code some ∙ ap (λ (n : ℕ). Err (refusal n code)) at)
 fault_shown bytes old new before after frames.OutOfMemory f begins fed is =
     subst (λ (g : ShowFault). IsShownFault g (shown_stream bytes)) (sym is) tt

@@ -2,7 +2,6 @@
 
 ghost use Rattle.std.specs.Prelude.{◌≡◌, ◌++◌, OnOk, IfOk};
 ghost use Rattle.std.specs.List.{flat_map};
-
 ghost use Rattle.show.specs.Answer.{Shows};
 ghost use Rattle.show.specs.Stream.{IsFrameFault, frame_line, rest_line, shown_stream, IsShownStream};
 

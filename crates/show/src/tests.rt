@@ -36,15 +36,25 @@ fn many_texts(alloc: Global, parts: &[(&str, u32)]) -> Result<Vec<u8>, Fail> {
     Ok(bytes)
 }
 
-/// The input gives this text, or a fault that is said so.
-fn shows(rt: &impl Abort, alloc: Global, bytes: &[u8], want: &[u8]) -> Result<(), Fail> {
-    match show_value(alloc, bytes) {
-        Ok(text) => assert_eq!(rt; text.as_slice(), want, "at {bytes:?}"),
-        Err(fault) => {
-            let said = fault.to_string(alloc)?;
-            assert_eq!(rt; said.as_bytes(), want, "at {bytes:?}");
-        }
+/// The text, or what is said of the fault.
+fn said(alloc: Global, answer: Result<Vec<u8>, ShowFault>) -> Result<Vec<u8>, Fail> {
+    match answer {
+        Ok(text) => Ok(text),
+        Err(fault) => Ok(fault.to_string(alloc)?.into_bytes()),
     }
+}
+
+/// `show value` prints this text of the input, or says this fault.
+fn shows(rt: &impl Abort, alloc: Global, bytes: &[u8], want: &[u8]) -> Result<(), Fail> {
+    let text = said(alloc, show_value(alloc, bytes))?;
+    assert_eq!(rt; text.as_slice(), want, "at {bytes:?}");
+    Ok(())
+}
+
+/// `show stream` prints this text of the input, or says this fault.
+fn frames(rt: &impl Abort, alloc: Global, bytes: &[u8], want: &[u8]) -> Result<(), Fail> {
+    let text = said(alloc, show_stream(alloc, bytes))?;
+    assert_eq!(rt; text.as_slice(), want, "at {bytes:?}");
     Ok(())
 }
 
@@ -508,6 +518,118 @@ fn many_values_are_shown(rt: HostRuntime) -> Result<(), Fail> {
         let bytes = many_bytes(rt.alloc(), input)?;
         let text = many_texts(rt.alloc(), want)?;
         shows(&rt, rt.alloc(), &bytes, &text)?;
+    }
+    Ok(())
+}
+
+/// Streams: a word of letters, one of the size, and words of the body are a frame.
+const STREAMS: &[(&str, &str)] = &[
+    ("", "rest 0\n"),
+    // a HEL with the url opc.tcp://a:4840, its first ten bytes, and a MSG behind it
+    (
+        "48454c46 30000000 00000000 00000100 00000100 00000000 00000000 10000000 6f70632e7463703a2f2f613a34383430",
+        "frame 0 HEL F 48\nrest 0\n",
+    ),
+    ("48454c46 30000000 0000", "rest 10\n"),
+    (
+        "48454c46 30000000 00000000 00000100 00000100 00000000 00000000 10000000 6f70632e7463703a2f2f613a34383430 4d534746 08000000",
+        "frame 0 HEL F 48\nframe 48 MSG F 8\nrest 0\n",
+    ),
+    // each kind and chunk
+    (
+        "41434b46 08000000 45525246 08000000 4f504e46 08000000 4d534746 08000000 4d534743 08000000 4d534741 08000000 434c4f46 08000000",
+        "frame 0 ACK F 8\nframe 8 ERR F 8\nframe 16 OPN F 8\nframe 24 MSG F 8\nframe 32 MSG C 8\nframe 40 MSG A 8\nframe 48 CLO F 8\nrest 0\n",
+    ),
+    (
+        "4d534743 0b000000 010203 434c4f46 09000000 ff 4d",
+        "frame 0 MSG C 11\nframe 11 CLO F 9\nrest 1\n",
+    ),
+    // letters of no kind, of no chunk, and of a kind that has only whole messages
+    ("58454c46 30000000", "byte 0: 807E0000"),
+    ("6d736746 08000000", "byte 0: 807E0000"),
+    ("4d534766 08000000", "byte 0: 807E0000"),
+    ("4d534742 08000000", "byte 0: 807E0000"),
+    ("48454c43 20000000", "byte 0: 807E0000"),
+    ("41434b41 08000000", "byte 0: 807E0000"),
+    ("45525243 08000000", "byte 0: 807E0000"),
+    ("4f504e43 08000000", "byte 0: 807E0000"),
+    ("434c4f41 08000000", "byte 0: 807E0000"),
+    // sizes, after the letters
+    ("4d534746 00000000", "byte 0: 80070000"),
+    ("4d534746 07000000", "byte 0: 80070000"),
+    ("4d534746 01000100", "byte 0: 80800000"),
+    ("4d534746 ffffffff", "byte 0: 80800000"),
+    ("4d534746 00000100", "rest 8\n"),
+    ("58454c46 00000000", "byte 0: 807E0000"),
+    ("58454c46 01000100", "byte 0: 807E0000"),
+    // a header is judged when its eight bytes are there, and what follows a fault says nothing
+    ("58454c46 300000", "rest 7\n"),
+    ("4d534746 070000", "rest 7\n"),
+    ("4d534746 07000000 4d534746 08000000", "byte 0: 80070000"),
+    ("4d534746 10000000 58585858", "rest 12\n"),
+    // faults after frames, each at its header's first byte
+    ("4d534746 08000000 4d534746 07000000", "byte 8: 80070000"),
+    ("4d534746 09000000 aa 58585858 08000000", "byte 9: 807E0000"),
+    (
+        "4d534743 0a000000 aabb 4d534746 08000000 434c4f46 01000100",
+        "byte 18: 80800000",
+    ),
+    (
+        "4d534743 0a000000 aabb 4d534746 08000000 434c4f46 010001",
+        "frame 0 MSG C 10\nframe 10 MSG F 8\nrest 7\n",
+    ),
+];
+
+fn streams() -> &'static [(&'static str, &'static str)] {
+    STREAMS
+}
+
+#[test]
+fn streams_are_shown(rt: HostRuntime) -> Result<(), Fail> {
+    for (input, want) in streams() {
+        let bytes = bytes_of(rt.alloc(), input)?;
+        frames(&rt, rt.alloc(), &bytes, want.as_bytes())?;
+    }
+    Ok(())
+}
+
+/// A frame, and so many bytes of the next one.
+#[test]
+fn a_rest_is_counted(rt: HostRuntime) -> Result<(), Fail> {
+    let bytes = bytes_of(rt.alloc(), "4d534746 09000000 ff 4d534743 09000000")?;
+    for size in 0..9 {
+        let want = format!(in rt.alloc(); "frame 0 MSG F 9\nrest {size}\n")?;
+        frames(&rt, rt.alloc(), &bytes[..9 + size], want.as_bytes())?;
+    }
+    Ok(())
+}
+
+/// A frame of the largest size, whole and without its last byte, and many frames.
+const LARGE: &[(&[(&str, u32)], &str)] = &[
+    (
+        &[("4d534746 00000100", 1), ("00", 65528)],
+        "frame 0 MSG F 65536\nrest 0\n",
+    ),
+    (&[("4d534746 00000100", 1), ("00", 65527)], "rest 65535\n"),
+    (
+        &[("4d534743 09000000 00", 3), ("4d534746", 1)],
+        "frame 0 MSG C 9\nframe 9 MSG C 9\nframe 18 MSG C 9\nrest 4\n",
+    ),
+    (
+        &[("4d534743 08000000", 20000), ("4d534741 07000000", 1)],
+        "byte 160000: 80070000",
+    ),
+];
+
+fn large() -> &'static [(&'static [(&'static str, u32)], &'static str)] {
+    LARGE
+}
+
+#[test]
+fn large_streams_are_shown(rt: HostRuntime) -> Result<(), Fail> {
+    for (input, want) in large() {
+        let bytes = many_bytes(rt.alloc(), input)?;
+        frames(&rt, rt.alloc(), &bytes, want.as_bytes())?;
     }
     Ok(())
 }
