@@ -1,3 +1,4 @@
 pub mod Frames
 pub mod Framing
 pub mod Streams
+pub mod Assembly

@@ -5,6 +5,7 @@ mod body;
 mod frame;
 mod framer;
 mod laws;
+mod message;
 #[cfg(test)]
 mod tests;
 
@@ -12,3 +13,4 @@ pub use body::Body;
 pub use frame::{Chunk, Frame, FrameFault, Kind, MOST_FRAME};
 pub use framer::Framer;
 pub use laws::{faults_stay, frames_are_read_again, frames_are_the_longest, pieces_are_one};
+pub use message::{Assembler, MOST_CHUNKS, MOST_MESSAGE, Message};
