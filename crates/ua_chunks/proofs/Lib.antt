@@ -3,3 +3,4 @@ pub mod Splits
 pub mod Pieces
 pub mod Streaming
 pub mod Written
+pub mod BodyCodecs

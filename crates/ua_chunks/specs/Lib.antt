@@ -2,3 +2,5 @@ pub mod Frames
 pub mod Framing
 pub mod Streams
 pub mod Assembly
+pub mod Bodies
+pub mod Sending
