@@ -4,3 +4,4 @@ pub mod Pieces
 pub mod Streaming
 pub mod Written
 pub mod BodyCodecs
+pub mod Chunking

@@ -1,5 +1,5 @@
 -- What a sender makes of messages: chunks of a secure channel (OPC 10000-6, 6.7.2).
-use Rattle.std.specs.Prelude.{◌≡◌, ◌≤◌, ◌<◌, ℕ, zero, suc, ◌+◌, ◌-◌, ◌*◌, ◌==◌, nat_le, min, List, [], ◌∷◌, ◌++◌, length, take, drop, codes, Option, Some, None, Result, Ok, Err, if◌then◌else◌}
+use Rattle.std.specs.Prelude.{◌≡◌, ◌≤◌, ◌<◌, ℕ, zero, suc, ◌+◌, ◌-◌, ◌*◌, ◌==◌, nat_lt, min, List, [], ◌∷◌, ◌++◌, length, take, drop, codes, Option, Some, None, Result, Ok, Err, if◌then◌else◌}
 use Rattle.std.specs.List.{flat_map}
 use Rattle.byteorder.specs.Endian.{little_bytes}
 use Rattle.ua_base.specs.Number.{after_chunk}
@@ -72,8 +72,9 @@ part k c request bytes s = record { kind = k; chunk = c; body = written_head req
 abbrev pub parts_up_to : ℕ → Kind → ℕ → List ℕ → Sending → List Part
 parts_up_to zero k request bytes s = part k chunk.Final request bytes s ∷ []
 parts_up_to (suc n) k request bytes s =
-    if nat_le (length bytes) (room s) then part k chunk.Final request bytes s ∷ []
-    else part k chunk.Middle request (take (room s) bytes) s ∷ parts_up_to n k request (drop (room s) bytes) (stepped s)
+    if nat_lt (room s) (length bytes) then
+      part k chunk.Middle request (take (room s) bytes) s ∷ parts_up_to n k request (drop (room s) bytes) (stepped s)
+    else part k chunk.Final request bytes s ∷ []
 
 -- each chunk has a byte at least, if there are several
 unfoldable pub message_parts : Kind → ℕ → List ℕ → Sending → List Part

@@ -1,7 +1,8 @@
-ghost use Rattle.std.specs.Prelude.{◌≡◌, ◌≤◌, ◌<◌, ◌+◌, ◌^◌, ◌++◌, length, IfOk, OnErr, OnOk};
+ghost use Rattle.std.specs.Prelude.{◌≡◌, ◌≤◌, ◌<◌, ◌+◌, ◌^◌, ◌++◌, None, Some, length, IfOk, OnErr, OnOk};
 ghost use Rattle.ua_chunks.specs.declared.frame.Kind.TheVariants as kind;
+ghost use Rattle.ua_values.specs.Written.{written_text};
 ghost use Rattle.ua_chunks.specs.Bodies.{written_opn_head};
-ghost use Rattle.ua_chunks.specs.Sending.{MayPut, Puts, Sending, after_parts, after_put, limit_of, limited, message_parts, new_sending, opn_head_of, opn_part, part, part_bytes, parts_bytes, put_bytes, room, written_head};
+ghost use Rattle.ua_chunks.specs.Sending.{MayPut, Puts, Sending, after_parts, after_put, limit_of, limited, message_parts, new_sending, none_policy, opn_head_of, opn_part, part, part_bytes, parts_bytes, put_bytes, room, written_head};
 
 use crate::frame::{Chunk, Kind, MOST_FRAME};
 use crate::message::{MOST_CHUNKS, MOST_MESSAGE};
@@ -56,6 +57,23 @@ fn limited(number: u32, limit: u32) -> u32
     ensures { result ≡ limited number limit }
 {
     if limit == 0 { number } else { number.min(limit) }
+}
+
+/// Appends the policy's URI.
+fn put_policy(to: &mut Vec<u8>) -> Result<(), OutOfMemory>
+    ensures { OnOk result (to.new.items ≡ to.old.items ++ written_text (Some none_policy)) }
+{
+    write_uint32(NONE_POLICY.len() as u32, to)?;
+    to.extend_from_slice(NONE_POLICY)?;
+    Ok(())
+}
+
+/// Appends a ByteString that is null.
+fn put_null(to: &mut Vec<u8>) -> Result<(), OutOfMemory>
+    ensures { OnOk result (to.new.items ≡ to.old.items ++ written_text None) }
+{
+    write_uint32(u32::MAX, to)?;
+    Ok(())
 }
 
 impl Sender {
@@ -244,10 +262,9 @@ impl Sender {
         ensures { OnOk result (to.new.items ≡ to.old.items ++ written_opn_head (opn_head_of request self.now)) }
     {
         write_uint32(self.channel, to)?;
-        write_uint32(NONE_POLICY.len() as u32, to)?;
-        to.extend_from_slice(NONE_POLICY)?;
-        write_uint32(u32::MAX, to)?;
-        write_uint32(u32::MAX, to)?;
+        put_policy(to)?;
+        put_null(to)?;
+        put_null(to)?;
         write_uint32(self.next, to)?;
         write_uint32(request, to)?;
         Ok(())
