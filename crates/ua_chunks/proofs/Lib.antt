@@ -5,3 +5,5 @@ pub mod Streaming
 pub mod Written
 pub mod BodyCodecs
 pub mod Chunking
+pub mod Arriving
+pub mod Putting

@@ -4,3 +4,4 @@ pub mod Streams
 pub mod Assembly
 pub mod Bodies
 pub mod Sending
+pub mod Arrival

@@ -1,0 +1,178 @@
+-- Lists of messages that a sender puts: their frames, and what an assembler makes of them.
+use Rattle.std.proofs.Common.{◌≡◌, ℕ, zero, suc, ◌+◌, ◌-◌, ◌*◌, ◌^◌, ◌==◌, ◌≤◌, ◌<◌, ◌||◌, Bool, true, false, List, [], ◌∷◌, ◌++◌, length, take, drop, Option, Some, None, ◌⊎◌, inl, inr, refl, sym, ap, subst, ◌∙◌, append_assoc, arith, map}
+use Rattle.std.specs.List.{AllByRecursion, concat}
+use Rattle.std.proofs.Math.Nat.{mul-suc}
+use Rattle.std.proofs.lemmas.Bool.{cases_lt}
+use Rattle.std.proofs.lemmas.Bool.Decides.{nat_tests}
+use Rattle.std.proofs.lemmas.List.{append-nil, length-append, length-drop, length-take}
+use Rattle.std.proofs.lemmas.List.Concat.{flat_map-append}
+use Rattle.ua_chunks.specs.declared.frame.Kind.{Kind}
+use Rattle.ua_chunks.specs.declared.frame.Kind.TheVariants as kind
+use Rattle.ua_chunks.specs.declared.frame.Chunk.TheVariants as chunk
+use Rattle.ua_chunks.specs.declared.frame.Frame.{Frame}
+use Rattle.ua_chunks.specs.declared.message.Message.{Message}
+use Rattle.ua_chunks.specs.Frames.{framed, moved}
+use Rattle.ua_chunks.specs.Framing.{given, new_framing}
+use Rattle.ua_chunks.specs.Streams.{AreFrom, IsFrame, after_frames, all_bytes, frame_bytes}
+use Rattle.ua_chunks.specs.Assembly.{Assembly, after_frame, and_then, assembled, message_of, messages_of, new_assembly, takes_request, with_number}
+use Rattle.ua_chunks.specs.Sending.{MayPut, Part, Sending, after_parts, after_put, message_parts, new_sending, part, part_bytes, parts_bytes, parts_of, put_bytes, room, stepped, written_head}
+use Rattle.ua_chunks.specs.Arrival.{ArePut, InStep, IsPut, IsSending, Put, after_all, all_put, frames_put, message_put, placed}
+use Rattle.ua_chunks.proofs.Written.{frame_long, frames_again}
+use Rattle.ua_chunks.proofs.Streaming.{all_given}
+use Rattle.ua_chunks.proofs.Chunking.{head_long, parts_last, parts_more}
+use Rattle.ua_chunks.proofs.Arriving.{Arrives, HasRoom, Ready, arrives, fits_room, stepped_is}
+
+-- ---- parts as frames
+
+pub placed_bytes : (place : ℕ) (parts : List Part) → all_bytes (placed place parts) ≡ parts_bytes parts
+placed_bytes place [] = refl
+placed_bytes place (p ∷ parts) = ap (λ (l : List ℕ). part_bytes p ++ l) (placed_bytes (moved place (8 + length p.body)) parts)
+
+-- what a part of a sender's is like
+pub record IsPart (size : ℕ) (p : Part) : Type 0 where
+  pub chunk : (p.kind ≡ kind.Msg) ⊎ (p.chunk ≡ chunk.Final)
+  pub small : 8 + length p.body ≤ size
+
+placed_from : (size place : ℕ) (parts : List Part) → size ≤ 65536 → AllByRecursion (IsPart size) parts → AreFrom place (placed place parts)
+placed_from size place [] le are = tt
+placed_from size place (p ∷ parts) le are =
+    let small = are.0.small in
+    (record { chunk = are.0.chunk; size = omega (arith, small) }, refl, placed_from size (moved place (8 + length p.body)) parts le are.1)
+
+placed_small : (size place : ℕ) (parts : List Part) → AllByRecursion (IsPart size) parts → AllByRecursion (λ (f : Frame). 8 + length f.body ≤ size) (placed place parts)
+placed_small size place [] are = tt
+placed_small size place (p ∷ parts) are = (are.0.small, placed_small size (moved place (8 + length p.body)) parts are.1)
+
+both_small : {A : Type 0} (P : A → Type 0) (xs ys : List A) → AllByRecursion P xs → AllByRecursion P ys → AllByRecursion P (xs ++ ys)
+both_small P [] ys first second = second
+both_small P (x ∷ xs) ys first second = (first.0, both_small P xs ys first.1 second)
+
+from_append : (place : ℕ) (xs ys : List Frame) → place < 2 ^ 64 → AreFrom place xs → AreFrom (moved place (length (all_bytes xs))) ys → AreFrom place (xs ++ ys)
+from_append place [] ys lt first second =
+    let same : moved place 0 ≡ place = omega arith in subst (λ (p : ℕ). AreFrom p ys) same second
+from_append place (f ∷ xs) ys lt first second =
+    let next = moved place (8 + length f.body) in
+    let same : moved place (length (all_bytes (f ∷ xs))) ≡ moved next (length (all_bytes xs)) = omega (arith, frame_long f, length-append (frame_bytes f) (all_bytes xs)) in
+    (first.0, first.1, from_append next xs ys (omega arith) first.2 (subst (λ (p : ℕ). AreFrom p ys) same second))
+
+-- ---- the parts of a message
+
+chunk_small : (request : ℕ) (bytes : List ℕ) (s : Sending) → IsSending s → length bytes ≤ room s → (k : Kind) → 8 + length (part k chunk.Final request bytes s).body ≤ s.size
+chunk_small request bytes s is le k = omega (arith, head_long request s, length-append (written_head request s) bytes, is.least)
+
+message_by : (c : ℕ) (request : ℕ) (bytes : List ℕ) (s : Sending) → IsSending s → length bytes ≤ room s * suc c → AllByRecursion (IsPart s.size) (message_parts kind.Msg request bytes s)
+message_by zero request bytes s is fits =
+    let times = mul-suc (room s) 0 in
+    let le : length bytes ≤ room s = omega (arith, times) in
+    subst (AllByRecursion (IsPart s.size)) (sym (parts_last kind.Msg request bytes s le)) (record { chunk = inl refl; small = chunk_small request bytes s is le kind.Msg }, tt)
+message_by (suc c) request bytes s is fits = elim (cases_lt (room s) (length bytes)) [
+  | inl over ↦
+      let least : 1 ≤ room s = omega (arith, is.least) in
+      let times = mul-suc (room s) (suc c) in
+      let back = length-drop (room s) bytes in
+      let front = length-take (room s) bytes in
+      let small : 8 + length (part kind.Msg chunk.Middle request (take (room s) bytes) s).body ≤ s.size = chunk_small request (take (room s) bytes) s is (omega (arith, front)) kind.Msg in
+      subst (AllByRecursion (IsPart s.size)) (sym (parts_more kind.Msg request bytes s least over))
+          (record { chunk = inl refl; small = small }, message_by c request (drop (room s) bytes) (stepped s) (stepped_is s is) (omega (arith, times, back)))
+  | inr le ↦ subst (AllByRecursion (IsPart s.size)) (sym (parts_last kind.Msg request bytes s le)) (record { chunk = inl refl; small = chunk_small request bytes s is le kind.Msg }, tt)
+]
+
+-- ---- one message
+
+pub record Comes (place : ℕ) (m : Put) (s : Sending) (a : Assembly) : Type 0 where
+  pub parts : AllByRecursion (IsPart s.size) (parts_of m.kind m.request m.body s)
+  pub messages : messages_of (placed place (parts_of m.kind m.request m.body s)) a ≡ message_put m ∷ []
+  pub in_step : InStep (after_put m.kind m.request m.body s) (assembled (placed place (parts_of m.kind m.request m.body s)) a)
+  pub sending : IsSending (after_put m.kind m.request m.body s)
+
+ready_is : (request : ℕ) (s : Sending) (a : Assembly) → InStep s a → Ready request s a
+ready_is request s a step =
+    let none : (a.chunks == 0) ≡ true = let e = step.chunks in grind (arith, nat_tests) in
+    record { channel = step.channel; token = step.token; number = step.number; request_is = ap (λ b. b || (request == a.request)) none; fault = step.fault }
+
+arrived : (place : ℕ) (k : Kind) (request : ℕ) (body : List ℕ) (s : Sending) (a : Assembly) → IsSending s → request < 2 ^ 32 → InStep s a → HasRoom (length body) s → Arrives place k request body s a
+arrived place k request body s a is lt step room =
+    let chunks = step.chunks in
+    let none = ap length step.body in
+    arrives room.chunks place k request body s a is lt (ready_is request s a step) room.room_is (let few = room.few in omega (arith, chunks)) (let most = room.most in omega (arith, none))
+
+abbrev put_of : Kind → ℕ → List ℕ → Put
+put_of k request body = record { kind = k; request = request; body = body }
+
+comes_message : (place request : ℕ) (body : List ℕ) (s : Sending) (a : Assembly) → IsSending s → request < 2 ^ 32 → InStep s a → HasRoom (length body) s → Comes place (put_of kind.Msg request body) s a
+comes_message place request body s a is lt step room =
+    let r = arrived place kind.Msg request body s a is lt step room in
+    record {
+      parts = message_by room.chunks request body s is room.room_is;
+      messages = r.messages ∙ ap (λ (l : List ℕ). record { request = request; body = l ++ body } ∷ []) step.body;
+      in_step = r.in_step;
+      sending = r.sending;
+    }
+
+comes_close : (place request : ℕ) (body : List ℕ) (s : Sending) (a : Assembly) → IsSending s → request < 2 ^ 32 → InStep s a → HasRoom (length body) s → length body ≤ 4096 → Comes place (put_of kind.Clo request body) s a
+comes_close place request body s a is lt step has short =
+    let r = arrived place kind.Clo request body s a is lt step has in
+    let le : length body ≤ room s = omega (arith, is.least) in
+    record {
+      parts = subst (AllByRecursion (IsPart s.size)) (sym (parts_last kind.Clo request body s le)) (record { chunk = inr refl; small = chunk_small request body s is le kind.Clo }, tt);
+      messages = r.messages ∙ ap (λ (l : List ℕ). record { request = request; body = l ++ body } ∷ []) step.body;
+      in_step = r.in_step;
+      sending = r.sending;
+    }
+
+comes_by : (k : Kind) (place request : ℕ) (body : List ℕ) (s : Sending) (a : Assembly) → (k ≡ kind.Msg) ⊎ (k ≡ kind.Clo) → MayPut k (length body) → IsSending s → request < 2 ^ 32 → InStep s a → HasRoom (length body) s → Comes place (put_of k request body) s a
+comes_by kind.Msg place request body s a is may sends lt step has = comes_message place request body s a sends lt step has
+comes_by kind.Clo place request body s a is may sends lt step has = comes_close place request body s a sends lt step has may
+comes_by kind.Opn place request body s a (inl e) may sends lt step has = absurd cc
+comes_by kind.Opn place request body s a (inr e) may sends lt step has = absurd cc
+comes_by kind.Hel place request body s a is may sends lt step has = absurd may
+comes_by kind.Ack place request body s a is may sends lt step has = absurd may
+comes_by kind.Err place request body s a is may sends lt step has = absurd may
+
+pub comes : (place : ℕ) (m : Put) (s : Sending) (a : Assembly) → IsSending s → InStep s a → IsPut m s → Comes place m s a
+comes place m s a sends step put = comes_by m.kind place m.request m.body s a put.kind put.short sends put.request step (fits_room (length m.body) s put.fits)
+
+-- ---- lists of messages
+
+and_append : (o : Option Message) (xs ys : List Message) → and_then o (xs ++ ys) ≡ and_then o xs ++ ys
+and_append None xs ys = refl
+and_append (Some m) xs ys = refl
+
+messages_append : (xs ys : List Frame) (a : Assembly) → messages_of (xs ++ ys) a ≡ messages_of xs a ++ messages_of ys (assembled xs a)
+messages_append [] ys a = refl
+messages_append (f ∷ xs) ys a = ap (and_then (message_of f a)) (messages_append xs ys (after_frame f a)) ∙ and_append (message_of f a) (messages_of xs (after_frame f a)) (messages_of ys (assembled xs (after_frame f a)))
+
+assembled_append : (xs ys : List Frame) (a : Assembly) → assembled (xs ++ ys) a ≡ assembled ys (assembled xs a)
+assembled_append [] ys a = refl
+assembled_append (f ∷ xs) ys a = assembled_append xs ys (after_frame f a)
+
+pub record AllCome (place : ℕ) (messages : List Put) (s : Sending) (a : Assembly) : Type 0 where
+  pub come : messages_of (frames_put place messages s) a ≡ map message_put messages
+  pub in_step : InStep (after_all messages s) (assembled (frames_put place messages s) a)
+  pub sending : IsSending (after_all messages s)
+
+pub all_come : (place : ℕ) (messages : List Put) (s : Sending) (a : Assembly) → IsSending s → InStep s a → ArePut messages s → AllCome place messages s a
+all_come place [] s a sends step put = record { come = refl; in_step = step; sending = sends }
+all_come place (m ∷ messages) s a sends step put =
+    let c = comes place m s a sends step put.0 in
+    let frames = placed place (parts_of m.kind m.request m.body s) in
+    let next = moved place (length (put_bytes m.kind m.request m.body s)) in
+    let t = after_put m.kind m.request m.body s in
+    let more = all_come next messages t (assembled frames a) c.sending c.in_step put.1 in
+    record {
+      come = messages_append frames (frames_put next messages t) a
+          ∙ ap (λ ms. ms ++ messages_of (frames_put next messages t) (assembled frames a)) c.messages
+          ∙ ap (λ ms. message_put m ∷ ms) more.come;
+      in_step = subst (InStep (after_all messages t)) (sym (assembled_append frames (frames_put next messages t) a)) more.in_step;
+      sending = more.sending;
+    }
+
+pub all_bytes_put : (place : ℕ) (messages : List Put) (s : Sending) → all_bytes (frames_put place messages s) ≡ all_put messages s
+all_bytes_put place [] s = refl
+all_bytes_put place (m ∷ messages) s =
+    let frames = placed place (parts_of m.kind m.request m.body s) in
+    let next = moved place (length (put_bytes m.kind m.request m.body s)) in
+    let t = after_put m.kind m.request m.body s in
+    flat_map-append frame_bytes frames (frames_put next messages t)
+    ∙ ap (λ (l : List ℕ). l ++ all_bytes (frames_put next messages t)) (placed_bytes place (parts_of m.kind m.request m.body s))
+    ∙ ap (λ (l : List ℕ). put_bytes m.kind m.request m.body s ++ l) (all_bytes_put next messages t)
