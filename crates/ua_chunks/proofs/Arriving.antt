@@ -128,7 +128,7 @@ after_final request s a ready = record {
 abbrev pub with_middle : ℕ → List ℕ → Sending → Assembly → Assembly
 with_middle request bytes s a = with_chunk chunk.Middle (head_in request s) bytes (numbered (head_in request s) a)
 
-or_true : (b : Bool) → (b || true) ≡ true
+pub or_true : (b : Bool) → (b || true) ≡ true
 or_true true = refl
 or_true false = refl
 

@@ -7,3 +7,4 @@ pub mod BodyCodecs
 pub mod Chunking
 pub mod Arriving
 pub mod Putting
+pub mod BodyLaws

@@ -1,5 +1,5 @@
 -- Lists of messages that a sender puts: their frames, and what an assembler makes of them.
-use Rattle.std.proofs.Common.{◌≡◌, ℕ, zero, suc, ◌+◌, ◌-◌, ◌*◌, ◌^◌, ◌==◌, ◌≤◌, ◌<◌, ◌||◌, Bool, true, false, List, [], ◌∷◌, ◌++◌, length, take, drop, Option, Some, None, ◌⊎◌, inl, inr, refl, sym, ap, subst, ◌∙◌, append_assoc, arith, map}
+use Rattle.std.proofs.Common.{◌≡◌, ℕ, zero, suc, ◌+◌, ◌-◌, ◌*◌, ◌^◌, ◌==◌, ◌≤◌, ◌<◌, ◌||◌, Bool, true, false, cond, List, [], ◌∷◌, ◌++◌, length, take, drop, Option, Some, None, ◌⊎◌, inl, inr, refl, sym, ap, subst, ◌∙◌, append_assoc, arith, map}
 use Rattle.std.specs.List.{AllByRecursion, concat}
 use Rattle.std.proofs.Math.Nat.{mul-suc}
 use Rattle.std.proofs.lemmas.Bool.{cases_lt}
@@ -11,16 +11,17 @@ use Rattle.ua_chunks.specs.declared.frame.Kind.TheVariants as kind
 use Rattle.ua_chunks.specs.declared.frame.Chunk.TheVariants as chunk
 use Rattle.ua_chunks.specs.declared.frame.Frame.{Frame}
 use Rattle.ua_chunks.specs.declared.message.Message.{Message}
+use Rattle.ua_chunks.specs.declared.message.MessageFault.{MessageFault}
 use Rattle.ua_chunks.specs.Frames.{framed, moved}
 use Rattle.ua_chunks.specs.Framing.{given, new_framing}
 use Rattle.ua_chunks.specs.Streams.{AreFrom, IsFrame, after_frames, all_bytes, frame_bytes}
-use Rattle.ua_chunks.specs.Assembly.{Assembly, after_frame, and_then, assembled, message_of, messages_of, new_assembly, takes_request, with_number}
+use Rattle.ua_chunks.specs.Assembly.{Assembly, after_frame, and_then, assembled, fault_after, first_fault, is_former, message_of, messages_of, new_assembly, renewed, takes_request, unless_faulty, with_fault, with_number}
 use Rattle.ua_chunks.specs.Sending.{MayPut, Part, Sending, after_parts, after_put, message_parts, new_sending, part, part_bytes, parts_bytes, parts_of, put_bytes, room, stepped, written_head}
 use Rattle.ua_chunks.specs.Arrival.{ArePut, InStep, IsPut, IsSending, Put, after_all, all_put, frames_put, message_put, placed}
 use Rattle.ua_chunks.proofs.Written.{frame_long, frames_again}
 use Rattle.ua_chunks.proofs.Streaming.{all_given}
 use Rattle.ua_chunks.proofs.Chunking.{head_long, parts_last, parts_more}
-use Rattle.ua_chunks.proofs.Arriving.{Arrives, HasRoom, Ready, arrives, fits_room, stepped_is}
+use Rattle.ua_chunks.proofs.Arriving.{Arrives, HasRoom, Ready, arrives, fits_room, number_follows, or_true, stepped_is}
 
 -- ---- parts as frames
 
@@ -176,3 +177,119 @@ all_bytes_put place (m ∷ messages) s =
     flat_map-append frame_bytes frames (frames_put next messages t)
     ∙ ap (λ (l : List ℕ). l ++ all_bytes (frames_put next messages t)) (placed_bytes place (parts_of m.kind m.request m.body s))
     ∙ ap (λ (l : List ℕ). put_bytes m.kind m.request m.body s ++ l) (all_bytes_put next messages t)
+
+-- ---- their frames
+
+in_step_new : (s : Sending) → InStep s (new_assembly s.channel s.token)
+in_step_new s =
+    let same : (s.token == s.token) ≡ true = grind (arith, nat_tests) in
+    record { channel = refl; token = ap (λ b. b || false) same; number = refl; chunks = refl; body = refl; fault = refl }
+
+-- what is so of one message's parts, whoever takes them
+comes_new : (place : ℕ) (m : Put) (s : Sending) → IsSending s → IsPut m s → Comes place m s (new_assembly s.channel s.token)
+comes_new place m s sends put = comes place m s (new_assembly s.channel s.token) sends (in_step_new s) put
+
+size_after : (parts : List Part) (s : Sending) → (after_parts parts s).size ≡ s.size
+size_after [] s = refl
+size_after (p ∷ parts) s = size_after parts (stepped s)
+
+pub all_from : (place : ℕ) (messages : List Put) (s : Sending) → place < 2 ^ 64 → IsSending s → ArePut messages s → AreFrom place (frames_put place messages s)
+all_from place [] s lt sends put = tt
+all_from place (m ∷ messages) s lt sends put =
+    let c = comes_new place m s sends put.0 in
+    let parts = parts_of m.kind m.request m.body s in
+    let next = moved place (length (put_bytes m.kind m.request m.body s)) in
+    let t = after_put m.kind m.request m.body s in
+    let more = all_from next messages t (omega arith) c.sending put.1 in
+    from_append place (placed place parts) (frames_put next messages t) lt (placed_from s.size place parts sends.most c.parts)
+        (subst (λ (l : List ℕ). AreFrom (moved place (length l)) (frames_put next messages t)) (sym (placed_bytes place parts)) more)
+
+pub all_small : (place : ℕ) (messages : List Put) (s : Sending) → IsSending s → ArePut messages s → AllByRecursion (λ (f : Frame). 8 + length f.body ≤ s.size) (frames_put place messages s)
+all_small place [] s sends put = tt
+all_small place (m ∷ messages) s sends put =
+    let c = comes_new place m s sends put.0 in
+    let parts = parts_of m.kind m.request m.body s in
+    let next = moved place (length (put_bytes m.kind m.request m.body s)) in
+    let t = after_put m.kind m.request m.body s in
+    both_small (λ (f : Frame). 8 + length f.body ≤ s.size) (placed place parts) (frames_put next messages t) (placed_small s.size place parts c.parts)
+        (subst (λ (n : ℕ). AllByRecursion (λ (f : Frame). 8 + length f.body ≤ n) (frames_put next messages t)) (size_after parts s) (all_small next messages t c.sending put.1))
+
+pub all_framed : (place : ℕ) (messages : List Put) (s : Sending) (more : List ℕ) → place < 2 ^ 64 → IsSending s → ArePut messages s
+    → framed place (all_put messages s ++ more) ≡ after_frames (frames_put place messages s) (framed (moved place (length (all_put messages s))) more)
+all_framed place messages s more lt sends put =
+    let same = all_bytes_put place messages s in
+    ap (λ (l : List ℕ). framed place (l ++ more)) (sym same)
+    ∙ frames_again place (frames_put place messages s) more lt (all_from place messages s lt sends put)
+    ∙ ap (λ (l : List ℕ). after_frames (frames_put place messages s) (framed (moved place (length l)) more)) same
+
+-- ---- from the first byte on
+
+nothing_framed : (place : ℕ) → (framed place []).frames ≡ []
+unfolding framed
+nothing_framed place = refl
+
+pub whole_arrives : (pieces : List (List ℕ)) (messages : List Put) (channel token size max_message max_chunks : ℕ) → channel < 2 ^ 32 → token < 2 ^ 32 → 8192 ≤ size
+    → ArePut messages (new_sending channel token size max_message max_chunks) → concat pieces ≡ all_put messages (new_sending channel token size max_message max_chunks)
+    → messages_of (given pieces new_framing) (new_assembly channel token) ≡ map message_put messages
+whole_arrives pieces messages channel token size max_message max_chunks lc lt least put is =
+    let s = new_sending channel token size max_message max_chunks in
+    let sends : IsSending s = record { channel = lc; token = lt; least = omega arith; most = omega arith; next = omega arith } in
+    let stream = all_put messages s in
+    let frames = frames_put 0 messages s in
+    let all : (framed 0 stream).frames ≡ frames =
+    ap (λ (l : List ℕ). (framed 0 l).frames) (sym (append-nil stream)) ∙ ap (λ f. f.frames) (all_framed 0 messages s [] (omega arith) sends put)
+    ∙ ap (λ gs. frames ++ gs) (nothing_framed (moved 0 (length stream))) ∙ append-nil frames in
+    ap (λ fs. messages_of fs (new_assembly channel token)) (all_given pieces ∙ ap (λ (l : List ℕ). (framed 0 l).frames) is ∙ all)
+    ∙ (all_come 0 messages s (new_assembly channel token) sends (in_step_new s) put).come
+
+-- ---- an OPN
+
+pub opn_step : (request : ℕ) (body : List ℕ) (s : Sending) (a : Assembly) → InStep s a → InStep (after_put kind.Opn request body s) (with_number s.next a)
+opn_step request body s a step =
+    record { channel = step.channel; token = step.token; number = number_follows s.next; chunks = step.chunks; body = step.body; fault = step.fault }
+
+pub both_renewed : (channel token : ℕ) (s : Sending) (a : Assembly) → InStep s a → InStep (record s { channel = channel; token = token }) (renewed channel token a)
+both_renewed channel token s a step =
+    let same : (token == token) ≡ true = grind (arith, nat_tests) in
+    record {
+      channel = refl;
+      token = ap (λ b. b || is_former token (renewed channel token a).former) same;
+      number = step.number;
+      chunks = step.chunks;
+      body = step.body;
+      fault = step.fault;
+    }
+
+former_by : (b : Bool) (token channel : ℕ) (s : Sending) (a : Assembly) → (channel == a.channel) ≡ b → channel ≡ a.channel → s.token ≡ a.token
+    → (s.token == token || is_former s.token (cond b (Some a.token) None)) ≡ true
+former_by true token channel s a e is same =
+    let here : (s.token == a.token) ≡ true = grind (arith, nat_tests) in ap (λ b. s.token == token || b) here ∙ or_true (s.token == token)
+former_by false token channel s a e is same = absurd (grind (arith, nat_tests))
+
+pub former_taken : (token : ℕ) (s : Sending) (a : Assembly) → InStep s a → s.token ≡ a.token → InStep s (renewed s.channel token a)
+former_taken token s a step same = record {
+  channel = refl;
+  token = former_by (s.channel == a.channel) token s.channel s a refl (sym step.channel) same;
+  number = step.number;
+  chunks = step.chunks;
+  body = step.body;
+  fault = step.fault;
+}
+
+-- ---- after a fault
+
+pub record Ended (frames : List Frame) (fault : MessageFault) (a : Assembly) : Type 0 where
+  pub messages : messages_of frames a ≡ []
+  pub fault_is : (assembled frames a).fault ≡ Some fault
+
+pub ended : (frames : List Frame) (fault : MessageFault) (a : Assembly) → a.fault ≡ Some fault → Ended frames fault a
+unfolding after_frame message_of
+ended [] fault a e = record { messages = refl; fault_is = e }
+ended (f ∷ frames) fault a e =
+    let after : fault_after f a ≡ Some fault = ap (λ o. first_fault o f a) e in
+    let state : after_frame f a ≡ record a { fault = Some fault } = ap (λ o. with_fault o f a) after in
+    let more = ended frames fault (record a { fault = Some fault }) refl in
+    record {
+      messages = ap (λ o. and_then o (messages_of frames (after_frame f a))) (ap (λ o. unless_faulty o f a) after) ∙ ap (messages_of frames) state ∙ more.messages;
+      fault_is = ap (λ b. (assembled frames b).fault) state ∙ more.fault_is;
+    }
