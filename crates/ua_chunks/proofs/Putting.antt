@@ -1,11 +1,14 @@
 -- Lists of messages that a sender puts: their frames, and what an assembler makes of them.
-use Rattle.std.proofs.Common.{◌≡◌, ℕ, zero, suc, ◌+◌, ◌-◌, ◌*◌, ◌^◌, ◌==◌, ◌≤◌, ◌<◌, ◌||◌, Bool, true, false, cond, List, [], ◌∷◌, ◌++◌, length, take, drop, Option, Some, None, ◌⊎◌, inl, inr, refl, sym, ap, subst, ◌∙◌, append_assoc, arith, map}
+use Rattle.std.proofs.Common.{◌≡◌, ℕ, zero, suc, ◌+◌, ◌-◌, ◌*◌, ◌^◌, ◌==◌, ◌≤◌, ◌<◌, ◌||◌, ◌&&◌, nat_lt, Bool, true, false, cond, List, [], ◌∷◌, ◌++◌, length, take, drop, Option, Some, None, ◌⊎◌, inl, inr, refl, sym, ap, subst, ◌∙◌, append_assoc, arith, map}
 use Rattle.std.specs.List.{AllByRecursion, concat}
 use Rattle.std.proofs.Math.Nat.{mul-suc}
-use Rattle.std.proofs.lemmas.Bool.{cases_lt}
+use Rattle.std.proofs.lemmas.Bool.{cases_lt, lt-ltb}
 use Rattle.std.proofs.lemmas.Bool.Decides.{nat_tests}
 use Rattle.std.proofs.lemmas.List.{append-nil, length-append, length-drop, length-take}
 use Rattle.std.proofs.lemmas.List.Concat.{flat_map-append}
+use Rattle.byteorder.specs.Endian.{little_bytes}
+use Rattle.byteorder.specs.Numbers.{length-bytes_low_first}
+use Rattle.ua_values.specs.Written.{written_text}
 use Rattle.ua_chunks.specs.declared.frame.Kind.{Kind}
 use Rattle.ua_chunks.specs.declared.frame.Kind.TheVariants as kind
 use Rattle.ua_chunks.specs.declared.frame.Chunk.TheVariants as chunk
@@ -15,8 +18,8 @@ use Rattle.ua_chunks.specs.declared.message.MessageFault.{MessageFault}
 use Rattle.ua_chunks.specs.Frames.{framed, moved}
 use Rattle.ua_chunks.specs.Framing.{given, new_framing}
 use Rattle.ua_chunks.specs.Streams.{AreFrom, IsFrame, after_frames, all_bytes, frame_bytes}
-use Rattle.ua_chunks.specs.Assembly.{Assembly, after_frame, and_then, assembled, fault_after, first_fault, is_former, message_of, messages_of, new_assembly, renewed, takes_request, unless_faulty, with_fault, with_number}
-use Rattle.ua_chunks.specs.Sending.{MayPut, Part, Sending, after_parts, after_put, message_parts, new_sending, part, part_bytes, parts_bytes, parts_of, put_bytes, room, stepped, written_head}
+use Rattle.ua_chunks.specs.Assembly.{Assembly, Ended, after_frame, and_then, assembled, fault_after, first_fault, is_former, message_of, messages_of, new_assembly, renewed, takes_number, takes_request, unless_faulty, with_fault, with_number}
+use Rattle.ua_chunks.specs.Sending.{MayPut, Part, Sending, after_parts, after_put, message_parts, new_sending, none_policy, opn_part, part, part_bytes, parts_bytes, parts_of, put_bytes, room, stepped, written_head}
 use Rattle.ua_chunks.specs.Arrival.{ArePut, InStep, IsPut, IsSending, Put, after_all, all_put, frames_put, message_put, placed}
 use Rattle.ua_chunks.proofs.Written.{frame_long, frames_again}
 use Rattle.ua_chunks.proofs.Streaming.{all_given}
@@ -180,7 +183,7 @@ all_bytes_put place (m ∷ messages) s =
 
 -- ---- their frames
 
-in_step_new : (s : Sending) → InStep s (new_assembly s.channel s.token)
+pub in_step_new : (s : Sending) → InStep s (new_assembly s.channel s.token)
 in_step_new s =
     let same : (s.token == s.token) ≡ true = grind (arith, nat_tests) in
     record { channel = refl; token = ap (λ b. b || false) same; number = refl; chunks = refl; body = refl; fault = refl }
@@ -278,10 +281,6 @@ former_taken token s a step same = record {
 
 -- ---- after a fault
 
-pub record Ended (frames : List Frame) (fault : MessageFault) (a : Assembly) : Type 0 where
-  pub messages : messages_of frames a ≡ []
-  pub fault_is : (assembled frames a).fault ≡ Some fault
-
 pub ended : (frames : List Frame) (fault : MessageFault) (a : Assembly) → a.fault ≡ Some fault → Ended frames fault a
 unfolding after_frame message_of
 ended [] fault a e = record { messages = refl; fault_is = e }
@@ -293,3 +292,57 @@ ended (f ∷ frames) fault a e =
       messages = ap (λ o. and_then o (messages_of frames (after_frame f a))) (ap (λ o. unless_faulty o f a) after) ∙ ap (messages_of frames) state ∙ more.messages;
       fault_is = ap (λ b. (assembled frames b).fault) state ∙ more.fault_is;
     }
+
+-- ---- an OPN's frame
+
+opn_small : (request : ℕ) (body : List ℕ) (s : Sending) → length body ≤ 4096 → IsPart 65536 (opn_part request body s)
+opn_small request body s short =
+    let a = length-bytes_low_first 0 4 s.channel in
+    let n = length-bytes_low_first 0 4 s.next in
+    let r = length-bytes_low_first 0 4 request in
+    let p = little_bytes 4 s.channel ++ written_text (Some none_policy) ++ written_text None ++ written_text None in
+    let text : length p ≡ 4 + 51 + 4 + 4 = refl in
+    let all = length-append (p ++ little_bytes 4 s.next ++ little_bytes 4 request) body in
+    let one = length-append (p ++ little_bytes 4 s.next) (little_bytes 4 request) in
+    let two = length-append p (little_bytes 4 s.next) in
+    record { chunk = inr refl; small = omega (arith, a, n, r, text, all, one, two) }
+
+pub opn_framed : (place request : ℕ) (body more : List ℕ) (s : Sending) → place < 2 ^ 64 → IsSending s → length body ≤ 4096
+    → framed place (put_bytes kind.Opn request body s ++ more)
+        ≡ after_frames (placed place (opn_part request body s ∷ [])) (framed (moved place (length (put_bytes kind.Opn request body s))) more)
+opn_framed place request body more s lt is short =
+    let parts = opn_part request body s ∷ [] in
+    let same = placed_bytes place parts in
+    ap (λ (l : List ℕ). framed place (l ++ more)) (sym same)
+    ∙ frames_again place (placed place parts) more lt (placed_from 65536 place parts (omega arith) (opn_small request body s short, tt))
+    ∙ ap (λ (l : List ℕ). after_frames (placed place parts) (framed (moved place (length l)) more)) same
+
+-- ---- which number follows
+
+pub record Follows (number last : ℕ) : Type 0 where
+  pub told : takes_number number (Some last) ≡ true → (number ≡ last + 1) ⊎ ((4294966271 < last) × (number < 1024))
+  pub tells : (number ≡ last + 1) ⊎ ((4294966271 < last) × (number < 1024)) → takes_number number (Some last) ≡ true
+
+or_is : (a b c : Bool) → (a || (b && c)) ≡ true → (a ≡ true) ⊎ ((b ≡ true) × (c ≡ true))
+or_is true b c e = inl refl
+or_is false true c e = inr (refl, e)
+or_is false false c e = absurd cc
+
+told_by : (number last : ℕ) → (((number == last + 1) ≡ true) ⊎ ((nat_lt 4294966271 last ≡ true) × (nat_lt number 1024 ≡ true))) → (number ≡ last + 1) ⊎ ((4294966271 < last) × (number < 1024))
+told_by number last (inl e) = inl (grind (arith, nat_tests))
+told_by number last (inr e) =
+    let a = e.0 in
+    let b = e.1 in
+    inr (grind (arith, nat_tests), grind (arith, nat_tests))
+
+pub follows : (number last : ℕ) → Follows number last
+follows number last = record {
+  told = λ e. told_by number last (or_is (number == last + 1) (nat_lt 4294966271 last) (nat_lt number 1024) e);
+  tells = λ h. elim h [
+    | inl is ↦ let e : (number == last + 1) ≡ true = grind (arith, nat_tests) in ap (λ b. b || (nat_lt 4294966271 last && nat_lt number 1024)) e
+    | inr both ↦
+        let a : nat_lt 4294966271 last ≡ true = lt-ltb 4294966271 last both.0 in
+        let b : nat_lt number 1024 ≡ true = lt-ltb number 1024 both.1 in
+        ap (λ x. (number == last + 1) || (x && nat_lt number 1024)) a ∙ ap (λ x. (number == last + 1) || x) b ∙ or_true (number == last + 1)
+  ];
+}

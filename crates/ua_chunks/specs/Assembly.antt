@@ -156,3 +156,8 @@ messages_of (f ∷ frames) s = and_then (message_of f s) (messages_of frames (af
 abbrev pub assembled : List Frame → Assembly → Assembly
 assembled [] s = s
 assembled (f ∷ frames) s = assembled frames (after_frame f s)
+
+-- after a fault there is no message, and the fault stays
+pub record Ended (frames : List Frame) (fault : MessageFault) (s : Assembly) : Type 0 where
+  pub messages : messages_of frames s ≡ []
+  pub fault_is : (assembled frames s).fault ≡ Some fault
