@@ -1,19 +1,17 @@
 -- A chunk that a sender made, taken by an assembler that is in step with it; and then a whole message.
-use Rattle.std.proofs.Common.{◌≡◌, ℕ, zero, suc, ◌+◌, ◌-◌, ◌*◌, ◌^◌, ◌==◌, ◌≤◌, ◌<◌, ◌&&◌, ◌||◌, not, Bool, true, false, cond, min, nat_lt, nat_le, List, [], ◌∷◌, ◌++◌, length, take, drop, Option, Some, None, refl, sym, ap, subst, ◌∙◌, append_assoc, arith, inl, inr}
+use Rattle.std.proofs.Common.{◌≡◌, ℕ, zero, suc, ◌+◌, ◌-◌, ◌*◌, ◌^◌, ◌==◌, ◌≤◌, ◌<◌, ◌&&◌, ◌||◌, Bool, true, false, cond, min, nat_lt, nat_le, List, [], ◌∷◌, ◌++◌, length, take, drop, Some, None, refl, sym, ap, subst, ◌∙◌, append_assoc, arith, inl, inr}
 use Rattle.std.proofs.Math.Nat.{mul-suc}
 use Rattle.std.proofs.lemmas.Bool.{cases_lt, lt-ltb, le-ltb}
 use Rattle.std.proofs.lemmas.Bool.Decides.{nat_tests}
-use Rattle.std.proofs.lemmas.List.{append-nil, length-append, length-drop, length-take, take-append-drop, take_at, drop_at}
+use Rattle.std.proofs.lemmas.List.{length-append, length-drop, length-take, take-append-drop, drop_at}
 use Rattle.byteorder.specs.Endian.{little_bytes, little_number}
 use Rattle.byteorder.specs.Numbers.{little_number-reads_back}
 use Rattle.ua_base.specs.Number.{after_chunk}
 use Rattle.ua_chunks.specs.declared.frame.Kind.{Kind}
-use Rattle.ua_chunks.specs.declared.frame.Kind.TheVariants as kind
 use Rattle.ua_chunks.specs.declared.frame.Chunk.{Chunk}
 use Rattle.ua_chunks.specs.declared.frame.Chunk.TheVariants as chunk
 use Rattle.ua_chunks.specs.declared.frame.Frame.{Frame}
 use Rattle.ua_chunks.specs.declared.message.ChunkHead.{ChunkHead}
-use Rattle.ua_chunks.specs.declared.message.Message.{Message}
 use Rattle.ua_chunks.specs.declared.message.TheConstants.{MOST_CHUNKS, MOST_MESSAGE}
 use Rattle.ua_chunks.specs.Frames.{moved}
 use Rattle.ua_chunks.specs.Assembly.{Assembly, after_frame, at_place, first_fault, and_then, assembled, fault_after, has_room, head_of, is_former, message_by, message_of, messages_of, numbered, refusal, refusal_of, takes_number, takes_request, takes_token, unless_faulty, with_chunk, with_fault, without_message}
@@ -202,8 +200,8 @@ arrives (suc c) place k request bytes s a is lt ready fits chunks most = elim (c
       let back = length-drop (room s) bytes in
       let both = length-append a.body (take (room s) bytes) in
       arrives_more place k request bytes s a is lt ready (room_is (length (take (room s) bytes)) a (omega arith) (omega (arith, front, most))) (parts_more k request bytes s least over)
-          (λ p. arrives c p k request (drop (room s) bytes) (stepped s) (with_middle request (take (room s) bytes) s a) (stepped_is s is) lt (after_middle request (take (room s) bytes) s a ready)
-              (omega (arith, times, back)) (omega arith) (omega (arith, front, back, both, most)))
+      (λ p. arrives c p k request (drop (room s) bytes) (stepped s) (with_middle request (take (room s) bytes) s a) (stepped_is s is) lt (after_middle request (take (room s) bytes) s a ready)
+      (omega (arith, times, back)) (omega arith) (omega (arith, front, back, both, most)))
   | inr le ↦ arrives_last place k request bytes s a is lt ready (room_is (length bytes) a (omega arith) most) (parts_last k request bytes s le)
 ]
 

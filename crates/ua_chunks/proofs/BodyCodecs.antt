@@ -1,5 +1,5 @@
 -- The bodies of HEL, ACK, ERR and OPN are read exactly as they are spelled.
-use Rattle.std.proofs.Common.{◌≡◌, ℕ, ◌+◌, ◌≤◌, ◌<◌, List, [], ◌∷◌, ◌++◌, length, take, drop, Option, None, Result, Ok, Err, ◌⊎◌, inl, inr, refl, sym, ap, subst, ◌∙◌, arith}
+use Rattle.std.proofs.Common.{◌≡◌, ℕ, List, [], ◌∷◌, ◌++◌, length, take, drop, Option, Result, Ok, Err, inl, inr, refl, sym, ap, subst, ◌∙◌, arith}
 use Rattle.std.proofs.lemmas.List.{append-nil, length-append, take_at, drop_at}
 use Rattle.ua_values.specs.declared.fault.ValueFault.{ValueFault}
 use Rattle.ua_values.specs.declared.fault.ValueFault.TheVariants as faults
@@ -14,7 +14,7 @@ use Rattle.ua_values.proofs.TypeCodecs.{number32_codec, text_codec}
 use Rattle.ua_chunks.specs.declared.greeting.Greeting.{Greeting}
 use Rattle.ua_chunks.specs.declared.opening.OpnHead.{OpnHead}
 use Rattle.ua_chunks.specs.declared.opening.OpnChunk.{OpnChunk}
-use Rattle.ua_chunks.specs.Bodies.{IsFront, IsInFront, IsLeftOf, IsOpn, IsWhole, end_at, ended, error, error_at, greeting, greeting_at, hello, hello_at, opn, opn_head, opn_head_at, opn_of, policy, policy_at, value_of, whole_at}
+use Rattle.ua_chunks.specs.Bodies.{IsInFront, IsLeftOf, IsOpn, IsWhole, end_at, ended, error, error_at, greeting, greeting_at, hello, hello_at, opn, opn_head, opn_head_at, opn_of, policy, policy_at, value_of, whole_at}
 
 -- ---- each reads its spellings
 
@@ -24,53 +24,53 @@ four = number32_codec
 pub greeting_codec : IsCodec greeting greeting_at
 greeting_codec =
     begins (number 4) (number_at 4) (λ (g : Greeting). g.version)
-        (λ (g : Greeting). number 4 g.receive followed_by number 4 g.send followed_by number 4 g.max_message followed_by number 4 g.max_chunks) _ four
-        (λ version. goes_on (λ (g : Greeting). g.version ≡ version) (number 4) (number_at 4) (λ g. g.receive)
-            (λ g. number 4 g.send followed_by number 4 g.max_message followed_by number 4 g.max_chunks) _ four
-            (λ receive. goes_on (λ (g : Greeting). (g.version ≡ version) × (g.receive ≡ receive)) (number 4) (number_at 4) (λ g. g.send)
-                (λ g. number 4 g.max_message followed_by number 4 g.max_chunks) _ four
-                (λ send. goes_on (λ (g : Greeting). ((g.version ≡ version) × (g.receive ≡ receive)) × (g.send ≡ send)) (number 4) (number_at 4) (λ g. g.max_message)
-                    (λ g. number 4 g.max_chunks) _ four
-                    (λ max_message. ends (λ (g : Greeting). (((g.version ≡ version) × (g.receive ≡ receive)) × (g.send ≡ send)) × (g.max_message ≡ max_message)) (number 4) (number_at 4) (λ g. g.max_chunks)
-                        (λ max_chunks. record { version = version; receive = receive; send = send; max_message = max_message; max_chunks = max_chunks })
-                        (λ n. (((refl, refl), refl), refl)) (λ n. refl)
-                        (λ g known. rw (← known.0.0.0, ← known.0.0.1, ← known.0.1, ← known.1) refl) four))))
+    (λ (g : Greeting). number 4 g.receive followed_by number 4 g.send followed_by number 4 g.max_message followed_by number 4 g.max_chunks) _ four
+    (λ version. goes_on (λ (g : Greeting). g.version ≡ version) (number 4) (number_at 4) (λ g. g.receive)
+    (λ g. number 4 g.send followed_by number 4 g.max_message followed_by number 4 g.max_chunks) _ four
+    (λ receive. goes_on (λ (g : Greeting). (g.version ≡ version) × (g.receive ≡ receive)) (number 4) (number_at 4) (λ g. g.send)
+    (λ g. number 4 g.max_message followed_by number 4 g.max_chunks) _ four
+    (λ send. goes_on (λ (g : Greeting). ((g.version ≡ version) × (g.receive ≡ receive)) × (g.send ≡ send)) (number 4) (number_at 4) (λ g. g.max_message)
+    (λ g. number 4 g.max_chunks) _ four
+    (λ max_message. ends (λ (g : Greeting). (((g.version ≡ version) × (g.receive ≡ receive)) × (g.send ≡ send)) × (g.max_message ≡ max_message)) (number 4) (number_at 4) (λ g. g.max_chunks)
+    (λ max_chunks. record { version = version; receive = receive; send = send; max_message = max_message; max_chunks = max_chunks })
+    (λ n. (((refl, refl), refl), refl)) (λ n. refl)
+    (λ g known. rw (← known.0.0.0, ← known.0.0.1, ← known.0.1, ← known.1) refl) four))))
 
 pub hello_codec : IsCodec hello hello_at
 hello_codec =
     begins greeting greeting_at (λ (h : Greeting × Option (List ℕ)). h.0) (λ (h : Greeting × Option (List ℕ)). text h.1) _ greeting_codec
-        (λ g. ends (λ (h : Greeting × Option (List ℕ)). h.0 ≡ g) text text_at (λ h. h.1) (λ url. (g, url)) (λ url. refl) (λ url. refl) (λ h known. ap (λ (g : Greeting). (g, h.1)) known) text_codec)
+    (λ g. ends (λ (h : Greeting × Option (List ℕ)). h.0 ≡ g) text text_at (λ h. h.1) (λ url. (g, url)) (λ url. refl) (λ url. refl) (λ h known. ap (λ (g : Greeting). (g, h.1)) known) text_codec)
 
 pub error_codec : IsCodec error error_at
 error_codec =
     same (MadeOf (number 4) text (λ code reason. code)) error error_at
-        (λ code bytes m. (m.1, subst (λ (n : ℕ). (number 4 n followed_by text m.1) bytes) (sym m.2) m.3))
-        (λ code bytes e. (code, e.0, refl, e.1))
-        (made_of (number 4) (number_at 4) text text_at (λ code reason. code) four text_codec)
+    (λ code bytes m. (m.1, subst (λ (n : ℕ). (number 4 n followed_by text m.1) bytes) (sym m.2) m.3))
+    (λ code bytes e. (code, e.0, refl, e.1))
+    (made_of (number 4) (number_at 4) text text_at (λ code reason. code) four text_codec)
 
 pub policy_codec : IsCodec policy policy_at
 policy_codec =
     same (MadeOf (number 4) text (λ channel p. p)) policy policy_at
-        (λ p bytes m. (m.0, subst (λ (o : Option (List ℕ)). (number 4 m.0 followed_by text o) bytes) (sym m.2) m.3))
-        (λ p bytes e. (e.0, p, refl, e.1))
-        (made_of (number 4) (number_at 4) text text_at (λ channel p. p) four text_codec)
+    (λ p bytes m. (m.0, subst (λ (o : Option (List ℕ)). (number 4 m.0 followed_by text o) bytes) (sym m.2) m.3))
+    (λ p bytes e. (e.0, p, refl, e.1))
+    (made_of (number 4) (number_at 4) text text_at (λ channel p. p) four text_codec)
 
 pub opn_head_codec : IsCodec opn_head opn_head_at
 opn_head_codec =
     begins (number 4) (number_at 4) (λ (h : OpnHead). h.channel)
-        (λ (h : OpnHead). text h.policy followed_by text h.certificate followed_by text h.thumbprint followed_by number 4 h.number followed_by number 4 h.request) _ four
-        (λ channel. goes_on (λ (h : OpnHead). h.channel ≡ channel) text text_at (λ h. h.policy)
-            (λ h. text h.certificate followed_by text h.thumbprint followed_by number 4 h.number followed_by number 4 h.request) _ text_codec
-            (λ p. goes_on (λ (h : OpnHead). (h.channel ≡ channel) × (h.policy ≡ p)) text text_at (λ h. h.certificate)
-                (λ h. text h.thumbprint followed_by number 4 h.number followed_by number 4 h.request) _ text_codec
-                (λ certificate. goes_on (λ (h : OpnHead). ((h.channel ≡ channel) × (h.policy ≡ p)) × (h.certificate ≡ certificate)) text text_at (λ h. h.thumbprint)
-                    (λ h. number 4 h.number followed_by number 4 h.request) _ text_codec
-                    (λ thumbprint. goes_on (λ (h : OpnHead). (((h.channel ≡ channel) × (h.policy ≡ p)) × (h.certificate ≡ certificate)) × (h.thumbprint ≡ thumbprint)) (number 4) (number_at 4) (λ h. h.number)
-                        (λ h. number 4 h.request) _ four
-                        (λ n. ends (λ (h : OpnHead). ((((h.channel ≡ channel) × (h.policy ≡ p)) × (h.certificate ≡ certificate)) × (h.thumbprint ≡ thumbprint)) × (h.number ≡ n)) (number 4) (number_at 4) (λ h. h.request)
-                            (λ request. record { channel = channel; policy = p; certificate = certificate; thumbprint = thumbprint; number = n; request = request })
-                            (λ r. ((((refl, refl), refl), refl), refl)) (λ r. refl)
-                            (λ h known. rw (← known.0.0.0.0, ← known.0.0.0.1, ← known.0.0.1, ← known.0.1, ← known.1) refl) four)))))
+    (λ (h : OpnHead). text h.policy followed_by text h.certificate followed_by text h.thumbprint followed_by number 4 h.number followed_by number 4 h.request) _ four
+    (λ channel. goes_on (λ (h : OpnHead). h.channel ≡ channel) text text_at (λ h. h.policy)
+    (λ h. text h.certificate followed_by text h.thumbprint followed_by number 4 h.number followed_by number 4 h.request) _ text_codec
+    (λ p. goes_on (λ (h : OpnHead). (h.channel ≡ channel) × (h.policy ≡ p)) text text_at (λ h. h.certificate)
+    (λ h. text h.thumbprint followed_by number 4 h.number followed_by number 4 h.request) _ text_codec
+    (λ certificate. goes_on (λ (h : OpnHead). ((h.channel ≡ channel) × (h.policy ≡ p)) × (h.certificate ≡ certificate)) text text_at (λ h. h.thumbprint)
+    (λ h. number 4 h.number followed_by number 4 h.request) _ text_codec
+    (λ thumbprint. goes_on (λ (h : OpnHead). (((h.channel ≡ channel) × (h.policy ≡ p)) × (h.certificate ≡ certificate)) × (h.thumbprint ≡ thumbprint)) (number 4) (number_at 4) (λ h. h.number)
+    (λ h. number 4 h.request) _ four
+    (λ n. ends (λ (h : OpnHead). ((((h.channel ≡ channel) × (h.policy ≡ p)) × (h.certificate ≡ certificate)) × (h.thumbprint ≡ thumbprint)) × (h.number ≡ n)) (number 4) (number_at 4) (λ h. h.request)
+    (λ request. record { channel = channel; policy = p; certificate = certificate; thumbprint = thumbprint; number = n; request = request })
+    (λ r. ((((refl, refl), refl), refl), refl)) (λ r. refl)
+    (λ h known. rw (← known.0.0.0.0, ← known.0.0.0.1, ← known.0.0.1, ← known.0.1, ← known.1) refl) four)))))
 
 -- ---- what is left after a value
 

@@ -1,10 +1,10 @@
 -- What is written of HEL, ACK, ERR and OPN is a spelling, and is read again.
-use Rattle.std.proofs.Common.{◌≡◌, ℕ, ◌+◌, ◌^◌, ◌≤◌, ◌<◌, List, [], ◌∷◌, ◌++◌, length, Option, Some, None, Ok, refl, sym, ap, ◌∙◌, append_assoc, arith}
+use Rattle.std.proofs.Common.{◌≡◌, ℕ, ◌^◌, ◌<◌, List, ◌++◌, Some, None, Ok, refl, sym, ap, ◌∙◌, append_assoc, arith}
 use Rattle.byteorder.specs.Endian.{little_bytes}
-use Rattle.ua_values.specs.Reading.{input, number_at}
-use Rattle.ua_values.specs.Parts.{number, text}
+use Rattle.ua_values.specs.Reading.{input}
+use Rattle.ua_values.specs.Parts.{number}
 use Rattle.ua_values.specs.Written.{written_text}
-use Rattle.ua_values.specs.Laws.{IsLawful, KeepsText}
+use Rattle.ua_values.specs.Laws.{IsLawful}
 use Rattle.ua_values.proofs.WrittenLemmas.{lawful, number_spelled, text_spelled}
 use Rattle.ua_chunks.specs.declared.greeting.Greeting.{Greeting}
 use Rattle.ua_chunks.specs.declared.opening.OpnHead.{OpnHead}

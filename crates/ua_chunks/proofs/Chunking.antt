@@ -9,8 +9,8 @@ use Rattle.ua_base.specs.Number.{after_chunk}
 use Rattle.ua_chunks.specs.declared.frame.Kind.{Kind}
 use Rattle.ua_chunks.specs.declared.frame.Chunk.{Chunk}
 use Rattle.ua_chunks.specs.declared.frame.Chunk.TheVariants as chunk
-use Rattle.ua_chunks.specs.Streams.{chunk_bytes, start_bytes}
-use Rattle.ua_chunks.specs.Sending.{Part, Sending, after_parts, message_parts, part, part_bytes, parts_bytes, parts_up_to, room, stepped, written_head}
+use Rattle.ua_chunks.specs.Streams.{start_bytes}
+use Rattle.ua_chunks.specs.Sending.{Sending, after_parts, message_parts, part, part_bytes, parts_bytes, parts_up_to, room, stepped, written_head}
 
 pub head_long : (request : ℕ) (s : Sending) → length (written_head request s) ≡ 16
 head_long request s =
@@ -73,7 +73,7 @@ parts_more k request (b ∷ bytes) s least lt =
     let less = length-drop (room s) (b ∷ bytes) in
     more_by (length bytes) k request (b ∷ bytes) s lt
     ∙ ap (λ parts. part k chunk.Middle request (take (room s) (b ∷ bytes)) s ∷ parts)
-        (enough (length bytes) (length (drop (room s) (b ∷ bytes))) k request (drop (room s) (b ∷ bytes)) (stepped s) least (omega (arith, less)) (omega arith))
+    (enough (length bytes) (length (drop (room s) (b ∷ bytes))) k request (drop (room s) (b ∷ bytes)) (stepped s) least (omega (arith, less)) (omega arith))
 
 -- ---- one turn of the loop, and its end
 

@@ -1,5 +1,5 @@
 -- Lists of messages that a sender puts: their frames, and what an assembler makes of them.
-use Rattle.std.proofs.Common.{◌≡◌, ℕ, zero, suc, ◌+◌, ◌-◌, ◌*◌, ◌^◌, ◌==◌, ◌≤◌, ◌<◌, ◌||◌, ◌&&◌, nat_lt, Bool, true, false, cond, List, [], ◌∷◌, ◌++◌, length, take, drop, Option, Some, None, ◌⊎◌, inl, inr, refl, sym, ap, subst, ◌∙◌, append_assoc, arith, map}
+use Rattle.std.proofs.Common.{◌≡◌, ℕ, zero, suc, ◌+◌, ◌*◌, ◌^◌, ◌==◌, ◌≤◌, ◌<◌, ◌||◌, ◌&&◌, nat_lt, Bool, true, false, cond, List, [], ◌∷◌, ◌++◌, length, take, drop, Option, Some, None, ◌⊎◌, inl, inr, refl, sym, ap, subst, ◌∙◌, arith, map}
 use Rattle.std.specs.List.{AllByRecursion, concat}
 use Rattle.std.proofs.Math.Nat.{mul-suc}
 use Rattle.std.proofs.lemmas.Bool.{cases_lt, lt-ltb}
@@ -17,8 +17,8 @@ use Rattle.ua_chunks.specs.declared.message.Message.{Message}
 use Rattle.ua_chunks.specs.declared.message.MessageFault.{MessageFault}
 use Rattle.ua_chunks.specs.Frames.{framed, moved}
 use Rattle.ua_chunks.specs.Framing.{given, new_framing}
-use Rattle.ua_chunks.specs.Streams.{AreFrom, IsFrame, after_frames, all_bytes, frame_bytes}
-use Rattle.ua_chunks.specs.Assembly.{Assembly, Ended, after_frame, and_then, assembled, fault_after, first_fault, is_former, message_of, messages_of, new_assembly, renewed, takes_number, takes_request, unless_faulty, with_fault, with_number}
+use Rattle.ua_chunks.specs.Streams.{AreFrom, after_frames, all_bytes, frame_bytes}
+use Rattle.ua_chunks.specs.Assembly.{Assembly, Ended, after_frame, and_then, assembled, fault_after, first_fault, is_former, message_of, messages_of, new_assembly, renewed, takes_number, unless_faulty, with_fault, with_number}
 use Rattle.ua_chunks.specs.Sending.{MayPut, Part, Sending, after_parts, after_put, message_parts, new_sending, none_policy, opn_part, part, part_bytes, parts_bytes, parts_of, put_bytes, room, stepped, written_head}
 use Rattle.ua_chunks.specs.Arrival.{ArePut, InStep, IsPut, IsSending, Put, after_all, all_put, frames_put, message_put, placed}
 use Rattle.ua_chunks.proofs.Written.{frame_long, frames_again}
@@ -77,7 +77,7 @@ message_by (suc c) request bytes s is fits = elim (cases_lt (room s) (length byt
       let front = length-take (room s) bytes in
       let small : 8 + length (part kind.Msg chunk.Middle request (take (room s) bytes) s).body ≤ s.size = chunk_small request (take (room s) bytes) s is (omega (arith, front)) kind.Msg in
       subst (AllByRecursion (IsPart s.size)) (sym (parts_more kind.Msg request bytes s least over))
-          (record { chunk = inl refl; small = small }, message_by c request (drop (room s) bytes) (stepped s) (stepped_is s is) (omega (arith, times, back)))
+      (record { chunk = inl refl; small = small }, message_by c request (drop (room s) bytes) (stepped s) (stepped_is s is) (omega (arith, times, back)))
   | inr le ↦ subst (AllByRecursion (IsPart s.size)) (sym (parts_last kind.Msg request bytes s le)) (record { chunk = inl refl; small = chunk_small request bytes s is le kind.Msg }, tt)
 ]
 
@@ -205,7 +205,7 @@ all_from place (m ∷ messages) s lt sends put =
     let t = after_put m.kind m.request m.body s in
     let more = all_from next messages t (omega arith) c.sending put.1 in
     from_append place (placed place parts) (frames_put next messages t) lt (placed_from s.size place parts sends.most c.parts)
-        (subst (λ (l : List ℕ). AreFrom (moved place (length l)) (frames_put next messages t)) (sym (placed_bytes place parts)) more)
+    (subst (λ (l : List ℕ). AreFrom (moved place (length l)) (frames_put next messages t)) (sym (placed_bytes place parts)) more)
 
 pub all_small : (place : ℕ) (messages : List Put) (s : Sending) → IsSending s → ArePut messages s → AllByRecursion (λ (f : Frame). 8 + length f.body ≤ s.size) (frames_put place messages s)
 all_small place [] s sends put = tt
@@ -215,7 +215,7 @@ all_small place (m ∷ messages) s sends put =
     let next = moved place (length (put_bytes m.kind m.request m.body s)) in
     let t = after_put m.kind m.request m.body s in
     both_small (λ (f : Frame). 8 + length f.body ≤ s.size) (placed place parts) (frames_put next messages t) (placed_small s.size place parts c.parts)
-        (subst (λ (n : ℕ). AllByRecursion (λ (f : Frame). 8 + length f.body ≤ n) (frames_put next messages t)) (size_after parts s) (all_small next messages t c.sending put.1))
+    (subst (λ (n : ℕ). AllByRecursion (λ (f : Frame). 8 + length f.body ≤ n) (frames_put next messages t)) (size_after parts s) (all_small next messages t c.sending put.1))
 
 pub all_framed : (place : ℕ) (messages : List Put) (s : Sending) (more : List ℕ) → place < 2 ^ 64 → IsSending s → ArePut messages s
     → framed place (all_put messages s ++ more) ≡ after_frames (frames_put place messages s) (framed (moved place (length (all_put messages s))) more)
@@ -309,7 +309,7 @@ opn_small request body s short =
 
 pub opn_framed : (place request : ℕ) (body more : List ℕ) (s : Sending) → place < 2 ^ 64 → IsSending s → length body ≤ 4096
     → framed place (put_bytes kind.Opn request body s ++ more)
-        ≡ after_frames (placed place (opn_part request body s ∷ [])) (framed (moved place (length (put_bytes kind.Opn request body s))) more)
+    ≡ after_frames (placed place (opn_part request body s ∷ [])) (framed (moved place (length (put_bytes kind.Opn request body s))) more)
 opn_framed place request body more s lt is short =
     let parts = opn_part request body s ∷ [] in
     let same = placed_bytes place parts in

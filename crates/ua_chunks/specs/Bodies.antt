@@ -1,5 +1,5 @@
 -- What stands in the frames HEL, ACK, ERR and OPN (OPC 10000-6, 7.1.2.3 to 7.1.2.5, and 6.7.2.3), each field a part of a spelling.
-use Rattle.std.specs.Prelude.{◌≡◌, ◌≤◌, ◌<◌, ℕ, ◌^◌, List, [], ◌∷◌, ◌++◌, length, drop, take, codes, Option, Some, None, Result, Ok, Err, ◌⊎◌}
+use Rattle.std.specs.Prelude.{◌≡◌, ◌≤◌, ◌<◌, ℕ, ◌^◌, List, [], ◌∷◌, ◌++◌, length, drop, take, Option, None, Result, Ok, Err, ◌⊎◌}
 use Rattle.byteorder.specs.Endian.{little_bytes}
 use Rattle.ua_values.specs.declared.fault.ValueFault.{ValueFault}
 use Rattle.ua_values.specs.declared.fault.ValueFault.TheVariants as faults

@@ -1,5 +1,5 @@
 -- What a sender makes of messages: chunks of a secure channel (OPC 10000-6, 6.7.2).
-use Rattle.std.specs.Prelude.{◌≡◌, ◌≤◌, ◌<◌, ℕ, zero, suc, ◌+◌, ◌-◌, ◌*◌, ◌==◌, nat_lt, min, List, [], ◌∷◌, ◌++◌, length, take, drop, codes, Option, Some, None, Result, Ok, Err, if◌then◌else◌}
+use Rattle.std.specs.Prelude.{◌≡◌, ◌≤◌, ◌<◌, ℕ, zero, suc, ◌-◌, ◌*◌, ◌==◌, nat_lt, min, List, [], ◌∷◌, ◌++◌, length, take, drop, codes, Some, None, Result, Ok, Err, if◌then◌else◌}
 use Rattle.std.specs.List.{flat_map}
 use Rattle.byteorder.specs.Endian.{little_bytes}
 use Rattle.ua_base.specs.Number.{after_chunk}
@@ -7,13 +7,11 @@ use Rattle.ua_chunks.specs.declared.frame.Kind.{Kind}
 use Rattle.ua_chunks.specs.declared.frame.Kind.TheVariants as kind
 use Rattle.ua_chunks.specs.declared.frame.Chunk.{Chunk}
 use Rattle.ua_chunks.specs.declared.frame.Chunk.TheVariants as chunk
-use Rattle.ua_chunks.specs.declared.frame.Frame.{Frame}
 use Rattle.ua_chunks.specs.declared.frame.TheConstants.{MOST_FRAME}
 use Rattle.ua_chunks.specs.declared.message.TheConstants.{MOST_CHUNKS, MOST_MESSAGE}
 use Rattle.ua_chunks.specs.declared.opening.OpnHead.{OpnHead}
 use Rattle.ua_chunks.specs.declared.sender.PutFault.{PutFault}
 use Rattle.ua_chunks.specs.declared.sender.PutFault.TheVariants as faults
-use Rattle.ua_chunks.specs.Frames.{moved}
 use Rattle.ua_chunks.specs.Streams.{chunk_bytes}
 use Rattle.ua_chunks.specs.Bodies.{written_opn_head}
 
@@ -73,7 +71,7 @@ abbrev pub parts_up_to : ℕ → Kind → ℕ → List ℕ → Sending → List 
 parts_up_to zero k request bytes s = part k chunk.Final request bytes s ∷ []
 parts_up_to (suc n) k request bytes s =
     if nat_lt (room s) (length bytes) then
-      part k chunk.Middle request (take (room s) bytes) s ∷ parts_up_to n k request (drop (room s) bytes) (stepped s)
+    part k chunk.Middle request (take (room s) bytes) s ∷ parts_up_to n k request (drop (room s) bytes) (stepped s)
     else part k chunk.Final request bytes s ∷ []
 
 -- each chunk has a byte at least, if there are several

@@ -168,11 +168,7 @@ pub fn write_hello(
 }
 
 /// Appends a whole ACK (OPC 10000-6, 7.1.2.4).
-pub fn write_ack(
-    alloc: Global,
-    greeting: &Greeting,
-    to: &mut Vec<u8>,
-) -> Result<(), OutOfMemory>
+pub fn write_ack(alloc: Global, greeting: &Greeting, to: &mut Vec<u8>) -> Result<(), OutOfMemory>
     ensures ok { OnOk result (to.new.items ≡ to.old.items ++ chunk_bytes kind.Ack chunk.Final (written_greeting greeting.now)) }
     ensures unchanged { OnErr result (to.new.items ≡ to.old.items) }
 {

@@ -64,7 +64,7 @@ pub fn numbers_follow()
 pub fn what_is_put_arrives()
     ensures frames { (place : ℕ) (messages : List Put) (s : Sending) (more : List ℕ) → place < 2 ^ 64 → IsSending s → ArePut messages s
         → framed place (all_put messages s ++ more)
-            ≡ after_frames (frames_put place messages s) (framed (moved place (length (all_put messages s))) more) }
+        ≡ after_frames (frames_put place messages s) (framed (moved place (length (all_put messages s))) more) }
     ensures sizes { (place : ℕ) (messages : List Put) (s : Sending) → IsSending s → ArePut messages s
         → AllByRecursion (λ frame. 8 + length frame.body ≤ s.size) (frames_put place messages s) }
     ensures messages { (place : ℕ) (messages : List Put) (s : Sending) (a : Assembly) → IsSending s → InStep s a → ArePut messages s
@@ -83,7 +83,7 @@ pub fn what_is_put_arrives()
 pub fn an_opn_is_read()
     ensures frame { (place request : ℕ) (body more : List ℕ) (s : Sending) → place < 2 ^ 64 → IsSending s → length body ≤ 4096
         → framed place (put_bytes kind.Opn request body s ++ more)
-            ≡ after_frames (placed place (opn_part request body s ∷ [])) (framed (moved place (length (put_bytes kind.Opn request body s))) more) }
+        ≡ after_frames (placed place (opn_part request body s ∷ [])) (framed (moved place (length (put_bytes kind.Opn request body s))) more) }
     ensures policy { (request : ℕ) (body : List ℕ) (s : Sending) → IsSending s → request < 2 ^ 32
         → value_of (policy_at (input 0 (opn_part request body s).body)) ≡ Ok (Some none_policy) }
     ensures read { (request : ℕ) (body : List ℕ) (s : Sending) → IsSending s → request < 2 ^ 32

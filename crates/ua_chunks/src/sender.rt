@@ -56,7 +56,11 @@ impl Model for Sender {
 fn limited(number: u32, limit: u32) -> u32
     ensures { result ≡ limited number limit }
 {
-    if limit == 0 { number } else { number.min(limit) }
+    if limit == 0 {
+        number
+    } else {
+        number.min(limit)
+    }
 }
 
 /// Appends the policy's URI.
@@ -79,13 +83,7 @@ fn put_null(to: &mut Vec<u8>) -> Result<(), OutOfMemory>
 impl Sender {
     /// Puts chunks of a channel with this token, in frames of at most `size` bytes; a size above 65,536 counts as
     /// 65,536. The other end takes `max_message` bytes and `max_chunks` chunks of a message; 0 says that it names no limit.
-    pub fn new(
-        channel: u32,
-        token: u32,
-        size: u32,
-        max_message: u32,
-        max_chunks: u32,
-    ) -> Sender
+    pub fn new(channel: u32, token: u32, size: u32, max_message: u32, max_chunks: u32) -> Sender
         requires { 8192 ≤ size }
         ensures { result ≡ new_sending channel token size max_message max_chunks }
     {

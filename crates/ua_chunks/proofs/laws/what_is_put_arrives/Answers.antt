@@ -1,4 +1,3 @@
-use Rattle.ua_chunks.specs.Arrival.{IsSending}
 use Rattle.ua_chunks.specs.Assembly.{new_assembly}
 use Rattle.ua_chunks.proofs.Putting.{all_come, all_framed, all_small, in_step_new, whole_arrives}
 use Rattle.ua_chunks.proofs.laws.what_is_put_arrives.Goals as goal

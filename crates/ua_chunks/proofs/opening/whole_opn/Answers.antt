@@ -1,4 +1,4 @@
-use Rattle.std.proofs.Common.{◌≡◌, List, ℕ, Ok, sym, ap, ◌∙◌}
+use Rattle.std.proofs.Common.{List, ℕ, Ok, sym, ap, ◌∙◌}
 use Rattle.ua_values.specs.Reading.{input}
 use Rattle.ua_chunks.specs.Bodies.{opn_head_at, opn_of}
 use Rattle.ua_chunks.proofs.BodyCodecs.{left_of}

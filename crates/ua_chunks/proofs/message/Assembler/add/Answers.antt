@@ -1,5 +1,4 @@
-use Rattle.std.proofs.Common.{◌≡◌, List, ℕ, Option, Some, None, drop, sym, ap, subst, ◌∙◌}
-use Rattle.ua_chunks.specs.declared.message.MessageFault.{MessageFault}
+use Rattle.std.proofs.Common.{◌≡◌, List, ℕ, Some, None, drop, sym, ap, subst, ◌∙◌}
 use Rattle.ua_chunks.specs.Assembly.{Adds, Assembly, after_frame, fault_after, head_of, message_by, message_of, numbered, unless_faulty, with_chunk, with_fault}
 use Rattle.ua_chunks.proofs.message.Assembler.add.Goals as goal
 
@@ -17,8 +16,7 @@ unfolding after_frame message_of
 returns-in-Ok c =
     let f = c.args.frame.now in
     let s = c.args.self.now in
-    let none : fault_after f s ≡ None = sym c.fault_after.ensures ∙ c.in_default.is in
-    (
+    let none : fault_after f s ≡ None = sym c.fault_after.ensures ∙ c.in_default.is in (
       none,
       c.in-Ok.ensures.state ∙ ap (λ (b : List ℕ). with_chunk f.chunk (head_of b) (drop 16 b) (numbered (head_of b) s)) c.bytes.ensures ∙ sym (ap (λ o. with_fault o f s) none),
       c.in-Ok.ensures.message ∙ ap (λ (b : List ℕ). message_by f.chunk (head_of b) (drop 16 b) s) c.bytes.ensures ∙ sym (ap (λ o. unless_faulty o f s) none),

@@ -1,4 +1,4 @@
-use Rattle.std.proofs.Common.{◌≡◌, List, ℕ, ◌++◌, ap, ◌∙◌}
+use Rattle.std.proofs.Common.{List, ℕ, ◌++◌, ap, ◌∙◌}
 use Rattle.ua_chunks.specs.Sending.{Sending, written_head}
 use Rattle.ua_chunks.proofs.Chunking.{chunk_is}
 use Rattle.ua_chunks.proofs.sender.Sender.put_chunk.Goals as goal

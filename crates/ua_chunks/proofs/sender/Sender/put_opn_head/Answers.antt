@@ -1,4 +1,4 @@
-use Rattle.std.proofs.Common.{◌≡◌, List, ℕ, None, Some, ◌++◌, ap, ◌∙◌}
+use Rattle.std.proofs.Common.{List, ℕ, None, Some, ◌++◌, ap, ◌∙◌}
 use Rattle.byteorder.specs.Endian.{little_bytes}
 use Rattle.ua_values.specs.Written.{written_text}
 use Rattle.ua_chunks.specs.Sending.{Sending, none_policy, opn_head_of}
