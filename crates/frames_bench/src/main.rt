@@ -77,7 +77,9 @@ fn measure_frames(rt: &HostRuntime, size: u32) -> io::Result<()>
         if found != Ok(want) {
             return println!(rt; "frames of {size} bytes: not all were found");
         }
-        println!(rt; "frames of {size} bytes in pieces of {piece}: {framing} MB/s, copied {copying} MB/s")?;
+        println!(rt;
+            "frames of {size} bytes in pieces of {piece}: {framing} MB/s, copied {copying} MB/s"
+        )?;
     }
     Ok(())
 }
@@ -135,7 +137,9 @@ fn measure_chunks(rt: &HostRuntime, length: usize) -> io::Result<()>
     if found != Ok(want) {
         return println!(rt; "messages of {length} bytes: not all were found");
     }
-    println!(rt; "messages of {length} bytes: put {putting} MB/s, assembled {assembling} MB/s, copied {copying} MB/s")
+    println!(rt;
+        "messages of {length} bytes: put {putting} MB/s, assembled {assembling} MB/s, copied {copying} MB/s"
+    )
 }
 
 fn main(rt: HostRuntime) -> io::Result<()> {
