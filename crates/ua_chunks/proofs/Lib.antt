@@ -7,4 +7,5 @@ pub mod BodyCodecs
 pub mod Chunking
 pub mod Arriving
 pub mod Putting
+pub mod Making
 pub mod BodyLaws

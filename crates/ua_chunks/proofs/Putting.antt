@@ -16,13 +16,13 @@ use Rattle.ua_chunks.specs.declared.frame.Frame.{Frame}
 use Rattle.ua_chunks.specs.declared.message.Message.{Message}
 use Rattle.ua_chunks.specs.declared.message.MessageFault.{MessageFault}
 use Rattle.ua_chunks.specs.Frames.{framed, moved}
-use Rattle.ua_chunks.specs.Framing.{given, new_framing}
+use Rattle.ua_chunks.specs.Framing.{Brings, Framing, IsBetween, given, new_framing}
 use Rattle.ua_chunks.specs.Streams.{AreFrom, after_frames, all_bytes, frame_bytes}
 use Rattle.ua_chunks.specs.Assembly.{Assembly, Ended, after_frame, and_then, assembled, fault_after, first_fault, is_former, message_of, messages_of, new_assembly, renewed, takes_number, unless_faulty, with_fault, with_number}
 use Rattle.ua_chunks.specs.Sending.{MayPut, Part, Sending, after_parts, after_put, message_parts, new_sending, none_policy, opn_part, part, part_bytes, parts_bytes, parts_of, put_bytes, room, stepped, written_head}
 use Rattle.ua_chunks.specs.Arrival.{ArePut, InStep, IsPut, IsSending, Put, after_all, all_put, frames_put, message_put, placed}
 use Rattle.ua_chunks.proofs.Written.{frame_long, frames_again}
-use Rattle.ua_chunks.proofs.Streaming.{all_given}
+use Rattle.ua_chunks.proofs.Streaming.{all_given, brings}
 use Rattle.ua_chunks.proofs.Chunking.{head_long, parts_last, parts_more}
 use Rattle.ua_chunks.proofs.Arriving.{Arrives, HasRoom, Ready, arrives, fits_room, number_follows, or_true, stepped_is}
 
@@ -224,6 +224,11 @@ all_framed place messages s more lt sends put =
     ap (λ (l : List ℕ). framed place (l ++ more)) (sym same)
     ∙ frames_again place (frames_put place messages s) more lt (all_from place messages s lt sends put)
     ∙ ap (λ (l : List ℕ). after_frames (frames_put place messages s) (framed (moved place (length l)) more)) same
+
+pub put_brings : (messages : List Put) (s : Sending) (f : Framing) → IsBetween f → IsSending s → ArePut messages s → Brings (frames_put f.place messages s) (all_put messages s) f
+put_brings messages s f between sends put =
+    subst (λ (l : List ℕ). Brings (frames_put f.place messages s) l f) (all_bytes_put f.place messages s)
+    (brings (frames_put f.place messages s) f between (all_from f.place messages s between.0 sends put))
 
 -- ---- from the first byte on
 

@@ -161,3 +161,20 @@ assembled (f ∷ frames) s = assembled frames (after_frame f s)
 pub record Ended (frames : List Frame) (fault : MessageFault) (s : Assembly) : Type 0 where
   pub messages : messages_of frames s ≡ []
   pub fault_is : (assembled frames s).fault ≡ Some fault
+
+-- the bytes of a chunk that are the message's
+abbrev pub own_bytes : Frame → List ℕ
+own_bytes f = drop 16 f.body
+
+abbrev pub IsMiddle : Frame → Type 0
+IsMiddle f = f.chunk ≡ chunk.Middle
+
+-- no message was begun
+pub record IsIdle (s : Assembly) : Type 0 where
+  pub chunks : s.chunks ≡ 0
+  pub body : s.body ≡ []
+
+-- chunks of which none broke a rule made nothing, and left nothing
+pub record Drops (frames : List Frame) (s : Assembly) : Type 0 where
+  pub messages : messages_of frames s ≡ []
+  pub idle : IsIdle (assembled frames s)

@@ -1,19 +1,20 @@
 //! Laws of frames and framers, each the contract of a function that does nothing.
 
-ghost use Rattle.std.specs.Prelude.{[], ◌∷◌, ◌≡◌, ◌<◌, ◌≤◌, ◌+◌, ◌^◌, ◌↔◌, ◌⊎◌, ℕ, List, ◌++◌, length, map, true, Some, Ok, All};
-ghost use Rattle.std.specs.List.{AllByRecursion, concat};
+ghost use Rattle.std.specs.Prelude.{[], ◌∷◌, ◌≡◌, ◌<◌, ◌≤◌, ◌+◌, ◌^◌, ◌↔◌, ◌⊎◌, ℕ, List, ◌++◌, length, map, true, None, Some, Ok, All};
+ghost use Rattle.std.specs.List.{AllByRecursion, concat, flat_map};
 ghost use Rattle.ua_values.specs.Laws.{IsLawful};
 ghost use Rattle.ua_values.specs.Reading.{input};
+ghost use Rattle.ua_chunks.specs.declared.frame.Chunk.TheVariants as chunk;
 ghost use Rattle.ua_chunks.specs.declared.frame.Kind.TheVariants as kind;
 ghost use Rattle.ua_chunks.specs.declared.message.MessageFault.{MessageFault};
 ghost use Rattle.ua_chunks.specs.Arrival.{ArePut, InStep, IsSending, Put, after_all, all_put, frames_put, message_put, opn_put, placed};
-ghost use Rattle.ua_chunks.specs.Assembly.{Assembly, Ended, assembled, messages_of, new_assembly, renewed, takes_number, with_number};
+ghost use Rattle.ua_chunks.specs.Assembly.{Assembly, Drops, Ended, IsIdle, IsMiddle, assembled, head_of, messages_of, new_assembly, own_bytes, renewed, takes_number, with_number};
 ghost use Rattle.ua_chunks.specs.Bodies.{KeepsGreeting, KeepsHello, KeepsOpnHead, error, error_at, greeting, greeting_at, hello, hello_at, opn_head, opn_head_at, opn_of, policy_at, value_of, written_error, written_greeting, written_hello, written_opn_head};
 ghost use Rattle.ua_chunks.specs.Sending.{Sending, after_put, new_sending, none_policy, opn_part, put_bytes};
 ghost use Rattle.ua_base.specs.Number.{after_chunk};
 ghost use Rattle.ua_chunks.specs.declared.frame.Frame.{Frame};
 ghost use Rattle.ua_chunks.specs.Frames.{BreaksRule, Split, fault_of, framed, moved};
-ghost use Rattle.ua_chunks.specs.Framing.{Framing, StandsAt, Stays, after_feed, fed, frames_of, given, new_framing};
+ghost use Rattle.ua_chunks.specs.Framing.{Brings, Framing, IsBetween, StandsAt, Stays, after_feed, fed, frames_of, given, new_framing};
 ghost use Rattle.ua_chunks.specs.Streams.{AreFrom, IsFramed, after_frames, all_bytes};
 
 /// The frames of bytes are the longest list of frames that the bytes begin with: the frames' bytes and the rest are the
@@ -27,10 +28,12 @@ pub fn frames_are_the_longest()
     ensures fault { (rest : List ℕ) (code : ℕ) → (fault_of rest ≡ Some code) ↔ BreaksRule rest code }
 {}
 
-/// What was written as frames is read as these frames, whatever follows.
+/// What was written as frames is read as these frames, whatever follows; fed to a framer that holds nothing, they are what
+/// comes out.
 pub fn frames_are_read_again()
-    ensures { (place : ℕ) (frames : List Frame) (more : List ℕ) → place < 2 ^ 64 → AreFrom place frames
+    ensures framed { (place : ℕ) (frames : List Frame) (more : List ℕ) → place < 2 ^ 64 → AreFrom place frames
         → framed place (all_bytes frames ++ more) ≡ after_frames frames (framed (moved place (length (all_bytes frames))) more) }
+    ensures fed { (frames : List Frame) (s : Framing) → IsBetween s → AreFrom s.place frames → Brings frames (all_bytes frames) s }
 {}
 
 /// How a stream is cut into pieces doesn't matter: after any calls the frames, the place, the fault and the rest are
@@ -57,6 +60,18 @@ pub fn numbers_follow()
     ensures next { (number : ℕ) → takes_number (after_chunk number) (Some number) ≡ true }
 {}
 
+/// Middle chunks and a final one, of which none breaks a rule, make one message: of the final one's request, and with the
+/// bytes of all of them, one after the other. With an abort chunk in place of the final one they make none
+/// (OPC 10000-6, 6.7.2.2 and 6.7.3).
+pub fn chunks_make_a_message()
+    ensures message { (frames : List Frame) (last : Frame) (a : Assembly) → IsIdle a → AllByRecursion IsMiddle frames
+        → last.chunk ≡ chunk.Final → (assembled (frames ++ last ∷ []) a).fault ≡ None
+        → messages_of (frames ++ last ∷ []) a
+        ≡ record { request = (head_of last.body).request; body = flat_map own_bytes (frames ++ last ∷ []) } ∷ [] }
+    ensures aborted { (frames : List Frame) (last : Frame) (a : Assembly) → AllByRecursion IsMiddle frames
+        → last.chunk ≡ chunk.Abort → (assembled (frames ++ last ∷ []) a).fault ≡ None → Drops (frames ++ last ∷ []) a }
+{}
+
 /// What a sender put arrives: from any place of a stream on, whatever follows, the frames of a list of messages are found
 /// as such, none larger than the sender's size, and an assembler in step makes of them these messages, in their order,
 /// and is in step again. So however the bytes are cut, a new framer and a new assembler give what a new sender of the same
@@ -72,6 +87,8 @@ pub fn what_is_put_arrives()
     ensures in_step { (place : ℕ) (messages : List Put) (s : Sending) (a : Assembly) → IsSending s → InStep s a → ArePut messages s
         → InStep (after_all messages s) (assembled (frames_put place messages s) a) }
     ensures sending { (place : ℕ) (messages : List Put) (s : Sending) → IsSending s → ArePut messages s → IsSending (after_all messages s) }
+    ensures fed { (messages : List Put) (s : Sending) (f : Framing) → IsBetween f → IsSending s → ArePut messages s
+        → Brings (frames_put f.place messages s) (all_put messages s) f }
     ensures whole { (pieces : List (List ℕ)) (messages : List Put) (channel token size max_message max_chunks : ℕ)
         → channel < 2 ^ 32 → token < 2 ^ 32 → 8192 ≤ size
         → ArePut messages (new_sending channel token size max_message max_chunks)

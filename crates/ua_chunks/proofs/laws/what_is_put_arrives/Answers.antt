@@ -1,5 +1,5 @@
 use Rattle.ua_chunks.specs.Assembly.{new_assembly}
-use Rattle.ua_chunks.proofs.Putting.{all_come, all_framed, all_small, in_step_new, whole_arrives}
+use Rattle.ua_chunks.proofs.Putting.{all_come, all_framed, all_small, in_step_new, put_brings, whole_arrives}
 use Rattle.ua_chunks.proofs.laws.what_is_put_arrives.Goals as goal
 
 pub returns-clause-frames : goal.returns-clause-frames
@@ -19,3 +19,6 @@ returns-clause-sending c = λ place messages s sends put. (all_come place messag
 
 pub returns-clause-whole : goal.returns-clause-whole
 returns-clause-whole c = whole_arrives
+
+pub returns-clause-fed : goal.returns-clause-fed
+returns-clause-fed c = put_brings
