@@ -5,10 +5,10 @@ use Rattle.ua_values.specs.declared.fault.ValueFault.{ValueFault}
 use Rattle.ua_values.specs.declared.fault.ValueFault.TheVariants as faults
 use Rattle.ua_values.specs.Reading.{Input, input, Reader, Fault, Short, Bad, Gives, ◌>>=◌, give, number_at, passed, sized}
 use Rattle.ua_values.specs.Readers.{text_at}
-use Rattle.ua_values.specs.Parts.{number, text, ◌followed_by◌}
+use Rattle.ua_values.specs.Parts.{number, text, ◌followed_by◌, Begun}
 use Rattle.ua_values.specs.Codec.{IsCodec}
 use Rattle.ua_values.proofs.Answers.{is_read}
-use Rattle.ua_values.proofs.Chain.{same}
+use Rattle.ua_values.proofs.Chain.{same, reads}
 use Rattle.ua_values.proofs.Fields.{MadeOf, begins, ends, goes_on, made_of}
 use Rattle.ua_values.proofs.TypeCodecs.{number32_codec, text_codec}
 use Rattle.ua_chunks.specs.declared.greeting.Greeting.{Greeting}
@@ -125,10 +125,10 @@ in_front_by S at codec bytes (Ok x) e (Ok a) g =
     }
 in_front_by S at codec bytes (Err f) e (Ok a) g = absurd (ok_err a f (sym g))
 in_front_by S at codec bytes (Ok x) e (Err faults.Short) g = absurd (ok_err x.0 Short g)
-in_front_by S at codec bytes (Err f) e (Err faults.Short) g = is_read S at codec bytes (Err faults.Short) (ap sized e ∙ ap (λ f. Err f) (err_same f Short g))
+in_front_by S at codec bytes (Err f) e (Err faults.Short) g = is_read S (Begun S) at (reads S at codec) bytes (Err faults.Short) (ap sized e ∙ ap (λ f. Err f) (err_same f Short g))
 in_front_by S at codec bytes (Ok x) e (Err (faults.Bad place code)) g = absurd (ok_err x.0 (Bad place code) g)
 in_front_by S at codec bytes (Err f) e (Err (faults.Bad place code)) g =
-    is_read S at codec bytes (Err (faults.Bad place code)) (ap sized e ∙ ap (λ f. Err f) (err_same f (Bad place code) g))
+    is_read S (Begun S) at (reads S at codec) bytes (Err (faults.Bad place code)) (ap sized e ∙ ap (λ f. Err f) (err_same f (Bad place code) g))
 in_front_by S at codec bytes q e (Err faults.OutOfMemory) g = tt
 
 pub in_front : {A : Type 0} (S : A → List ℕ → Type 0) (at : Reader A) → IsCodec S at → (bytes : List ℕ) (r : Result A ValueFault) → Gives r (value_of (at (input 0 bytes))) → IsInFront S bytes r
@@ -169,9 +169,9 @@ whole_by : {A : Type 0} (S : A → List ℕ → Type 0) (at : Reader A) → IsCo
     → (r : Result A ValueFault) → Gives r (value_of (passed q (λ a. end_at >>= λ u. give a))) → IsWhole S bytes r
 whole_by S at codec bytes (Ok x) e r g = whole_ok S bytes x.0 x.1 (taken S at codec bytes x.0 x.1 e) x.1.rest refl r g
 whole_by S at codec bytes (Err f) e (Ok a) g = absurd (ok_err a f (sym g))
-whole_by S at codec bytes (Err f) e (Err faults.Short) g = is_read S at codec bytes (Err faults.Short) (ap sized e ∙ ap (λ f. Err f) (err_same f Short g))
+whole_by S at codec bytes (Err f) e (Err faults.Short) g = is_read S (Begun S) at (reads S at codec) bytes (Err faults.Short) (ap sized e ∙ ap (λ f. Err f) (err_same f Short g))
 whole_by S at codec bytes (Err f) e (Err (faults.Bad place code)) g =
-    inl (is_read S at codec bytes (Err (faults.Bad place code)) (ap sized e ∙ ap (λ f. Err f) (err_same f (Bad place code) g)))
+    inl (is_read S (Begun S) at (reads S at codec) bytes (Err (faults.Bad place code)) (ap sized e ∙ ap (λ f. Err f) (err_same f (Bad place code) g)))
 whole_by S at codec bytes (Err f) e (Err faults.OutOfMemory) g = tt
 
 pub whole : {A : Type 0} (S : A → List ℕ → Type 0) (at : Reader A) → IsCodec S at → (bytes : List ℕ) (r : Result A ValueFault) → Gives r (value_of (whole_at at (input 0 bytes))) → IsWhole S bytes r
@@ -186,10 +186,10 @@ opn_by bytes (Ok x) e (Ok c) g =
     subst (λ (c : OpnChunk). opn c bytes) same (x.0.certificate, x.0.thumbprint, record { front = t.text; back = x.1.rest; first = t.spelled; second = refl; whole = t.whole })
 opn_by bytes (Err f) e (Ok c) g = absurd (ok_err c f (sym g))
 opn_by bytes (Ok x) e (Err faults.Short) g = absurd (ok_err _ Short g)
-opn_by bytes (Err f) e (Err faults.Short) g = is_read opn_head opn_head_at opn_head_codec bytes (Err faults.Short) (ap sized e ∙ ap (λ f. Err f) (err_same f Short g))
+opn_by bytes (Err f) e (Err faults.Short) g = is_read opn_head (Begun opn_head) opn_head_at (reads opn_head opn_head_at opn_head_codec) bytes (Err faults.Short) (ap sized e ∙ ap (λ f. Err f) (err_same f Short g))
 opn_by bytes (Ok x) e (Err (faults.Bad place code)) g = absurd (ok_err _ (Bad place code) g)
 opn_by bytes (Err f) e (Err (faults.Bad place code)) g =
-    is_read opn_head opn_head_at opn_head_codec bytes (Err (faults.Bad place code)) (ap sized e ∙ ap (λ f. Err f) (err_same f (Bad place code) g))
+    is_read opn_head (Begun opn_head) opn_head_at (reads opn_head opn_head_at opn_head_codec) bytes (Err (faults.Bad place code)) (ap sized e ∙ ap (λ f. Err f) (err_same f (Bad place code) g))
 opn_by bytes q e (Err faults.OutOfMemory) g = tt
 
 pub opn_is : (bytes : List ℕ) (r : Result OpnChunk ValueFault) → Gives r (opn_of (opn_head_at (input 0 bytes))) → IsOpn bytes r

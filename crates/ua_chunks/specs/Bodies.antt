@@ -5,7 +5,7 @@ use Rattle.ua_values.specs.declared.fault.ValueFault.{ValueFault}
 use Rattle.ua_values.specs.declared.fault.ValueFault.TheVariants as faults
 use Rattle.ua_values.specs.Reading.{Input, Reader, Fault, Bad, Fails, ◌>>=◌, give, number_at}
 use Rattle.ua_values.specs.Readers.{text_at}
-use Rattle.ua_values.specs.Parts.{number, exactly, text, ◌followed_by◌}
+use Rattle.ua_values.specs.Parts.{number, exactly, text, ◌followed_by◌, Begun}
 use Rattle.ua_values.specs.Answer.{EndsEarly, IsFault}
 use Rattle.ua_values.specs.Written.{written_text}
 use Rattle.ua_values.specs.Laws.{KeepsText}
@@ -138,8 +138,8 @@ pub record IsLeftOver {A : Type 0} (spells : A → List ℕ → Type 0) (bytes :
 -- the bytes are the value's spelling; or why they are none
 abbrev pub IsWhole : {A : Type 0} → (A → List ℕ → Type 0) → List ℕ → Result A ValueFault → Type 0
 IsWhole spells bytes (Ok a) = spells a bytes
-IsWhole spells bytes (Err faults.Short) = EndsEarly spells bytes
-IsWhole spells bytes (Err (faults.Bad place code)) = IsFault spells bytes place code ⊎ IsLeftOver spells bytes place code
+IsWhole spells bytes (Err faults.Short) = EndsEarly spells (Begun spells) bytes
+IsWhole spells bytes (Err (faults.Bad place code)) = IsFault spells (Begun spells) bytes place code ⊎ IsLeftOver spells bytes place code
 IsWhole spells bytes (Err faults.OutOfMemory) = Unit {0}
 
 pub record IsFront {A : Type 0} (spells : A → List ℕ → Type 0) (bytes : List ℕ) (a : A) : Type 0 where
@@ -150,15 +150,15 @@ pub record IsFront {A : Type 0} (spells : A → List ℕ → Type 0) (bytes : Li
 -- the first bytes are the value's spelling; or why none are
 abbrev pub IsInFront : {A : Type 0} → (A → List ℕ → Type 0) → List ℕ → Result A ValueFault → Type 0
 IsInFront spells bytes (Ok a) = IsFront spells bytes a
-IsInFront spells bytes (Err faults.Short) = EndsEarly spells bytes
-IsInFront spells bytes (Err (faults.Bad place code)) = IsFault spells bytes place code
+IsInFront spells bytes (Err faults.Short) = EndsEarly spells (Begun spells) bytes
+IsInFront spells bytes (Err (faults.Bad place code)) = IsFault spells (Begun spells) bytes place code
 IsInFront spells bytes (Err faults.OutOfMemory) = Unit {0}
 
 -- the bytes are the chunk's spelling; or why no head begins them
 abbrev pub IsOpn : List ℕ → Result OpnChunk ValueFault → Type 0
 IsOpn bytes (Ok c) = opn c bytes
-IsOpn bytes (Err faults.Short) = EndsEarly opn_head bytes
-IsOpn bytes (Err (faults.Bad place code)) = IsFault opn_head bytes place code
+IsOpn bytes (Err faults.Short) = EndsEarly opn_head (Begun opn_head) bytes
+IsOpn bytes (Err (faults.Bad place code)) = IsFault opn_head (Begun opn_head) bytes place code
 IsOpn bytes (Err faults.OutOfMemory) = Unit {0}
 
 -- ---- written

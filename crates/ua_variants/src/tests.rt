@@ -26,6 +26,13 @@ fn bytes_of(rt: &impl Abort, alloc: Global, text: &str) -> Result<Vec<u8>, Fail>
     Ok(bytes)
 }
 
+/// What is written of a value.
+fn written_again(alloc: Global, value: &DataValue) -> Result<Vec<u8>, Fail> {
+    let mut to = Vec::new(alloc);
+    write_data_value(value, &mut to)?;
+    Ok(to)
+}
+
 /// Reads a DataValue, of which `size` bytes are its spelling, and writes it.
 fn reads_and_writes(
     rt: &impl Abort,
@@ -36,8 +43,7 @@ fn reads_and_writes(
 ) -> Result<(), Fail> {
     let (value, read) = read_data_value(alloc, bytes)?;
     assert_eq!(rt; read, size);
-    let mut to = Vec::new(alloc);
-    write_data_value(&value, &mut to)?;
+    let to = written_again(alloc, &value)?;
     assert_eq!(rt; to.as_slice(), written);
     Ok(())
 }
