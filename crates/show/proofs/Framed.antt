@@ -1,6 +1,6 @@
 -- What is shown of a stream that came as one piece.
-use Rattle.std.proofs.Common.{◌≡◌, ℕ, ◌%◌, ◌^◌, List, [], ◌∷◌, ◌++◌, length, Option, Some, None, Result, Ok, Err, refl, sym, ap, ap₂, subst, ◌∙◌}
-use Rattle.std.specs.List.{concat, flat_map}
+use Rattle.std.proofs.Common.{◌≡◌, ℕ, ◌%◌, ◌^◌, List, [], ◌∷◌, ◌++◌, length, Option, Some, None, Ok, Err, refl, sym, ap, ap₂, subst, ◌∙◌}
+use Rattle.std.specs.List.{flat_map}
 use Rattle.std.proofs.lemmas.List.{append-nil}
 use Rattle.ua_chunks.specs.declared.frame.Frame.{Frame}
 use Rattle.ua_chunks.specs.declared.frame.FrameFault.{FrameFault}
@@ -9,8 +9,7 @@ use Rattle.ua_chunks.specs.Frames.{Split, fault_of, framed}
 use Rattle.ua_chunks.specs.Framing.{Framing, Feeds, StandsAt, after_feed, frames_of, new_framing, rest_of}
 use Rattle.ua_chunks.proofs.Streaming.{stands}
 use Rattle.show.specs.declared.fault.ShowFault.{ShowFault}
-use Rattle.show.specs.declared.fault.ShowFault.TheVariants as faults
-use Rattle.show.specs.Answer.{Refusal, refusal, IsShownFault}
+use Rattle.show.specs.Answer.{refusal, IsShownFault}
 use Rattle.show.specs.Stream.{IsFrameFault, frame_line, rest_line, stream_text, shown_split, shown_stream}
 
 stands_at : (bytes : List ℕ) → StandsAt (framed 0 bytes) (after_feed bytes new_framing)

@@ -1,10 +1,10 @@
 -- What is shown of an input, in the words of the grammar.
-use Rattle.std.proofs.Common.{◌≡◌, ◌==◌, ◌<◌, ◌≤◌, ℕ, ◌+◌, Bool, true, false, cond, List, [], ◌++◌, length, take, Result, Ok, Err, inl, inr, refl, sym, ap, subst, ◌∙◌, arith}
+use Rattle.std.proofs.Common.{◌≡◌, ◌==◌, ◌<◌, ◌≤◌, ℕ, ◌+◌, Bool, true, false, cond, List, [], length, take, Result, Ok, Err, inl, inr, refl, sym, ap, subst, ◌∙◌, arith}
 use Rattle.std.proofs.lemmas.List.{append-nil, take_all}
 use Rattle.std.proofs.lemmas.Bool.Decides.{nat_tests}
 use Rattle.ua_base.specs.declared.status.TheConstants.{BAD_DECODING_ERROR}
 use Rattle.ua_values.specs.declared.fault.ValueFault.TheVariants as values
-use Rattle.ua_values.specs.Reading.{Fault, Short, Bad, Input, input, sized}
+use Rattle.ua_values.specs.Reading.{Fault, Short, Bad, input, sized}
 use Rattle.ua_values.specs.Answer.{IsFault}
 use Rattle.ua_values.proofs.Answers.{is_read}
 use Rattle.ua_variants.specs.declared.variant.Variant.{Variant}
@@ -16,7 +16,7 @@ use Rattle.show.specs.declared.fault.ShowFault.{ShowFault}
 use Rattle.show.specs.declared.fault.ShowFault.TheVariants as faults
 use Rattle.show.specs.Text.{value_text}
 use Rattle.show.specs.Answer.{Refusal, refusal, Shows}
-use Rattle.show.specs.Value.{shown_of, shown_value, IsCutOff, IsLeftOver, IsShown}
+use Rattle.show.specs.Value.{shown_of, shown_value, IsShown}
 
 abbrev Shown : Type 0
 Shown = Result (List ℕ) Refusal

@@ -544,6 +544,10 @@ const STREAMS: &[(&str, &str)] = &[
         "4d534743 0b000000 010203 434c4f46 09000000 ff 4d",
         "frame 0 MSG C 11\nframe 11 CLO F 9\nrest 1\n",
     ),
+    (
+        "4d534746 09000000 ff 4d534743 09000000",
+        "frame 0 MSG F 9\nrest 8\n",
+    ),
     // letters of no kind, of no chunk, and of a kind that has only whole messages
     ("58454c46 30000000", "byte 0: 807E0000"),
     ("6d736746 08000000", "byte 0: 807E0000"),
@@ -593,13 +597,22 @@ fn streams_are_shown(rt: HostRuntime) -> Result<(), Fail> {
     Ok(())
 }
 
-/// A frame, and so many bytes of the next one.
+/// So many bytes of a frame of nine and a header are left, or of the header.
+fn rest_text(alloc: Global, size: usize) -> Result<String, Fail> {
+    if size < 9 {
+        Ok(format!(in alloc; "rest {size}\n")?)
+    } else {
+        let more = size - 9;
+        Ok(format!(in alloc; "frame 0 MSG F 9\nrest {more}\n")?)
+    }
+}
+
 #[test]
 fn a_rest_is_counted(rt: HostRuntime) -> Result<(), Fail> {
     let bytes = bytes_of(rt.alloc(), "4d534746 09000000 ff 4d534743 09000000")?;
-    for size in 0..9 {
-        let want = format!(in rt.alloc(); "frame 0 MSG F 9\nrest {size}\n")?;
-        frames(&rt, rt.alloc(), &bytes[..9 + size], want.as_bytes())?;
+    for (size, _) in bytes.iter().enumerate() {
+        let want = rest_text(rt.alloc(), size)?;
+        frames(&rt, rt.alloc(), &bytes[..size], want.as_bytes())?;
     }
     Ok(())
 }

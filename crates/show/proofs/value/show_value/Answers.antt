@@ -1,9 +1,7 @@
-use Rattle.std.proofs.Common.{◌≡◌, ℕ, List, Result, subst, refl}
+use Rattle.std.proofs.Common.{ℕ, List, Result, subst, refl}
 use Rattle.ua_values.specs.Reading.{input, sized}
 use Rattle.ua_variants.specs.Reader.{data_value_at}
-use Rattle.show.specs.Text.{value_text}
 use Rattle.show.specs.Answer.{Refusal, Shows}
-use Rattle.show.specs.Value.{shown_value}
 use Rattle.show.proofs.Spelled.{is_shown, shown_spelling}
 use Rattle.show.proofs.value.show_value.Goals as goal
 
