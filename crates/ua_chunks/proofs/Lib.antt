@@ -3,3 +3,9 @@ pub mod Splits
 pub mod Pieces
 pub mod Streaming
 pub mod Written
+pub mod BodyCodecs
+pub mod Chunking
+pub mod Arriving
+pub mod Putting
+pub mod Making
+pub mod BodyLaws

@@ -2,9 +2,13 @@
 use Rattle.std.proofs.Common.{◌≡◌, ℕ, ◌≤◌, List, [], ◌∷◌, ◌++◌, length, take, Option, Some, None, refl, sym, ap, subst, ◌∙◌, arith}
 use Rattle.std.proofs.lemmas.List.{append-nil, length-append, length-take}
 use Rattle.std.specs.List.{concat}
-use Rattle.ua_chunks.specs.Frames.{Split, fault_of, framed, unframed}
-use Rattle.ua_chunks.specs.Framing.{Framing, StandsAt, Stays, after_feed, fed, frames_of, given, held_of, new_framing, with_split}
+use Rattle.ua_chunks.specs.declared.frame.Frame.{Frame}
+use Rattle.ua_chunks.specs.Frames.{Split, fault_of, framed, moved, unframed}
+use Rattle.ua_chunks.specs.Framing.{Brings, Framing, IsBetween, StandsAt, Stays, after_feed, fed, frames_of, given, held_of, holding, new_framing, with_split}
+use Rattle.ua_chunks.specs.Streams.{AreFrom, after_frames, all_bytes}
+use Rattle.ua_chunks.proofs.Splits.{framed_open}
 use Rattle.ua_chunks.proofs.Stages.{broken_append}
+use Rattle.ua_chunks.proofs.Written.{frames_again}
 use Rattle.ua_chunks.proofs.Pieces.{cut_frames, cut_state, faulty_is, framed_broken, front_broken, is_faulty, nothing_fed, nothing_framed}
 
 nothing_behind : {A : Type 0} (xs ys : List A) → xs ≡ xs ++ ys → ys ≡ []
@@ -69,3 +73,21 @@ stays bytes s code e =
       place = ap (λ (t : Framing). t.place) state;
       frames = ap (λ f. f.frames) is;
     }
+
+-- ---- frames fed whole
+
+pub brings : (frames : List Frame) (s : Framing) → IsBetween s → AreFrom s.place frames → Brings frames (all_bytes frames) s
+unfolding after_feed frames_of
+brings frames s between are =
+    let bytes = all_bytes frames in
+    let next = moved s.place (length bytes) in
+    let split : framed s.place (s.held ++ bytes) ≡ record { frames = frames; place = next; rest = [] } =
+    ap (λ (held : List ℕ). framed s.place (held ++ bytes)) between.1
+    ∙ ap (framed s.place) (sym (append-nil bytes))
+    ∙ frames_again s.place frames [] between.0 are
+    ∙ ap (after_frames frames) (framed_open next [] tt)
+    ∙ ap (λ fs. record { frames = fs; place = next; rest = [] }) (append-nil frames) in
+    let state : holding [] [] next s ≡ record s { place = next } =
+    ap (λ (n : ℕ). record { place = next; held = []; missed = n; failed = s.failed }) (let none = between.2 in omega (arith, none))
+    ∙ ap (λ (held : List ℕ). record { place = next; held = held; missed = s.missed; failed = s.failed }) (sym between.1) in
+    record { frames_are = ap (λ f. f.frames) split; state = ap (λ f. with_split f s) split ∙ state }

@@ -5,7 +5,7 @@ use Rattle.ua_chunks.specs.declared.frame.FrameFault.{FrameFault}
 use Rattle.ua_chunks.specs.declared.frame.FrameFault.TheVariants as faults
 use Rattle.ua_chunks.specs.declared.frame.Stage.{Stage}
 use Rattle.ua_chunks.specs.declared.frame.Stage.TheVariants as stage
-use Rattle.ua_chunks.specs.Frames.{Split, fault_of, framed, stage_of}
+use Rattle.ua_chunks.specs.Frames.{Split, fault_of, framed, moved, stage_of}
 
 -- the place in the stream of the first byte that is in no whole frame, the bytes from there, and whether memory was
 -- refused. Behind a header that breaks a rule bytes are counted, and not held.
@@ -78,6 +78,15 @@ pub record StandsAt (f : Split) (s : Framing) : Type 0 where
   pub place : s.place ≡ f.place
   pub fault : fault_of s.held ≡ fault_of f.rest
   pub rest : rest_of s ≡ length f.rest % 2 ^ 64
+
+-- nothing is held: the next byte begins a frame
+abbrev pub IsBetween : Framing → Type 0
+IsBetween s = (s.place < 2 ^ 64) × (s.held ≡ []) × (s.missed ≡ 0)
+
+-- bytes of these frames make these frames, and leave nothing
+pub record Brings (frames : List Frame) (bytes : List ℕ) (s : Framing) : Type 0 where
+  pub frames_are : frames_of bytes s ≡ frames
+  pub state : after_feed bytes s ≡ record s { place = moved s.place (length bytes) }
 
 -- a framer with a fault goes nowhere
 pub record Stays (bytes : List ℕ) (code : ℕ) (s : Framing) : Type 0 where

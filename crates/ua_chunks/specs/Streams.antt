@@ -2,15 +2,23 @@
 use Rattle.std.specs.Prelude.{◌≡◌, ◌≤◌, ℕ, ◌+◌, List, [], ◌∷◌, ◌++◌, length, ◌⊎◌}
 use Rattle.std.specs.List.{flat_map}
 use Rattle.byteorder.specs.Endian.{little_bytes}
+use Rattle.ua_chunks.specs.declared.frame.Kind.{Kind}
 use Rattle.ua_chunks.specs.declared.frame.Kind.TheVariants as kind
+use Rattle.ua_chunks.specs.declared.frame.Chunk.{Chunk}
 use Rattle.ua_chunks.specs.declared.frame.Chunk.TheVariants as chunk
 use Rattle.ua_chunks.specs.declared.frame.Frame.{Frame}
 use Rattle.ua_chunks.specs.declared.frame.TheConstants.{MOST_FRAME}
 use Rattle.ua_chunks.specs.Frames.{Split, letter, letters, moved}
 
--- three letters, the chunk's letter, the size of the whole as four bytes, the lowest first, and the body
+-- three letters, the chunk's letter, and the size of the whole as four bytes, the lowest first
+abbrev pub start_bytes : Kind → Chunk → ℕ → List ℕ
+start_bytes k c count = letters k ++ letter c ++ little_bytes 4 (8 + count)
+
+abbrev pub chunk_bytes : Kind → Chunk → List ℕ → List ℕ
+chunk_bytes k c body = start_bytes k c (length body) ++ body
+
 abbrev pub frame_bytes : Frame → List ℕ
-frame_bytes f = letters f.kind ++ letter f.chunk ++ little_bytes 4 (8 + length f.body) ++ f.body
+frame_bytes f = chunk_bytes f.kind f.chunk f.body
 
 -- only a MSG may be in several chunks, and a frame has 65,536 bytes at most
 pub record IsFrame (f : Frame) : Type 0 where

@@ -4,11 +4,26 @@
 mod body;
 mod frame;
 mod framer;
+mod greeting;
 mod laws;
+mod message;
+#[cfg(test)]
+mod message_tests;
+mod opening;
+mod sender;
 #[cfg(test)]
 mod tests;
+mod writing;
 
 pub use body::Body;
 pub use frame::{Chunk, Frame, FrameFault, Kind, MOST_FRAME};
 pub use framer::Framer;
-pub use laws::{faults_stay, frames_are_read_again, frames_are_the_longest, pieces_are_one};
+pub use greeting::{Greeting, read_ack, read_err, read_hello, write_ack, write_err, write_hello};
+pub use laws::{
+    an_opn_is_read, bodies_are_lawful, chunks_make_a_message, faults_stay, frames_are_read_again,
+    frames_are_the_longest, numbers_follow, pieces_are_one, renewals_keep_step,
+    what_is_put_arrives,
+};
+pub use message::{Assembler, MOST_CHUNKS, MOST_MESSAGE, Message};
+pub use opening::{OpnChunk, read_opn, read_policy};
+pub use sender::{PutFault, Sender};

@@ -86,7 +86,7 @@ fn digit(rt: &impl Abort, byte: u8) -> u8
     }
 }
 
-fn bytes_of(rt: &impl Abort, alloc: Global, text: &str) -> Result<Vec<u8>, Fail> {
+pub(crate) fn bytes_of(rt: &impl Abort, alloc: Global, text: &str) -> Result<Vec<u8>, Fail> {
     let mut bytes = Vec::new(alloc);
     for pair in text.as_bytes().chunks(2) {
         if let [high, low] = pair {

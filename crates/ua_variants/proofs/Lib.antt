@@ -4,3 +4,4 @@ pub mod Heads
 pub mod Codecs
 pub mod Layers
 pub mod Appends
+pub mod Spelled

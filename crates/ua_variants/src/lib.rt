@@ -5,11 +5,15 @@ mod diagnostic;
 mod dimensions;
 mod flat;
 mod head;
+mod laws;
 mod nested;
 mod reading;
+#[cfg(test)]
+mod tests;
 mod variant;
 mod writing;
 
+pub use laws::{data_values_are_lawful, diagnostic_infos_are_lawful, variants_are_lawful};
 pub use reading::{
     read_data_value, read_diagnostic_info, read_variant, write_data_value, write_diagnostic_info,
     write_variant,

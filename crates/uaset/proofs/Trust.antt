@@ -1,7 +1,8 @@
 -- The log of a scenario's lines can be trusted.
 use Rattle.std.proofs.Common.{◌≡◌, ℕ, ◌≤◌, List, Ok, Err, refl, sym, ap, subst, ◌∙◌, arith}
-use Rattle.std.specs.Prelude.{Option, Some, None, Result}
+use Rattle.std.specs.Prelude.{Result}
 use Rattle.set_model.specs.declared.source.Change.{Change}
+use Rattle.set_model.specs.Report.{report_text}
 use Rattle.delivery_log.specs.Safe.{InOrder, Safe}
 use Rattle.scenario.specs.declared.line.Line.{Line}
 use Rattle.scenario.specs.declared.fault.ScenarioFault.{ScenarioFault}
@@ -9,8 +10,8 @@ use Rattle.scenario.specs.Scenario.{scenario_of}
 use Rattle.scenario.proofs.ValidLemmas.{valid_lines}
 use Rattle.direct_world.proofs.Law.{world_changes, world_safe, world_in_order, world_caused}
 use Rattle.uaset.specs.Answer.{answer_of, answer_by, client_log, size_of}
-use Rattle.uaset.specs.Edges.{HasTakenAll}
-use Rattle.uaset.specs.Run.{IsTrustworthy, SpellsTrustworthy}
+use Rattle.uaset.specs.declared.words.Command.TheVariants as command
+use Rattle.uaset.specs.Commands.{IsTrustworthy, Means}
 
 -- a scenario's queues have from 2 to 1000 places
 pub queue_fits : (pool : ℕ) (bytes : List ℕ) (lines : List Line) → scenario_of pool bytes ≡ Ok lines
@@ -35,14 +36,13 @@ trustworthy pool bytes lines h =
       caused = world_caused size.servers size.items size.queue lines two;
     }
 
-answered : (pool : ℕ) (bytes text : List ℕ) (scenario : Result (List Line) ScenarioFault) → scenario_of pool bytes ≡ scenario → answer_by scenario ≡ Ok text
-    → (lines : List Line) × (scenario_of pool bytes ≡ Ok lines) × IsTrustworthy lines
-answered pool bytes text (Ok lines) is h = (lines, is, trustworthy pool bytes lines is)
-answered pool bytes text (Err fault) is h = absurd cc
+ok_is : (report text : List ℕ) → ◌≡◌ {A = Result (List ℕ) ScenarioFault} (Ok report) (Ok text) → text ≡ report
+ok_is report text e = cc
 
--- an input that has a report spells a scenario whose log can be trusted
-pub spells_trustworthy : (before after : Option (List ℕ)) (bytes shown text : List ℕ) → HasTakenAll before after bytes → shown ≡ bytes → answer_of shown ≡ Ok text
-    → SpellsTrustworthy before
-spells_trustworthy None after bytes shown text h same is = tt
-spells_trustworthy (Some all) after bytes shown text h same is =
-    answered 0 all text (scenario_of 0 all) refl (ap answer_of (h.0 ∙ sym same) ∙ is)
+promised : (bytes text : List ℕ) (scenario : Result (List Line) ScenarioFault) → scenario_of 0 bytes ≡ scenario → answer_by scenario ≡ Ok text → Means command.Replay bytes text
+promised bytes text (Ok lines) is h = (lines, is, ok_is (report_text (client_log lines)) text h, trustworthy 0 bytes lines is)
+promised bytes text (Err fault) is h = absurd cc
+
+-- a report is that of a scenario whose log can be trusted
+pub report_promised : (bytes text : List ℕ) → answer_of bytes ≡ Ok text → Means command.Replay bytes text
+report_promised bytes text h = promised bytes text (scenario_of 0 bytes) refl h

@@ -1,4 +1,6 @@
 pub mod Answer
+pub mod Commands
 pub mod Edges
 pub mod Run
 pub mod Status
+pub mod Words

@@ -1,12 +1,14 @@
-//! `uaset`: replays the servers of a redundant set and their client.
+//! `uaset`: replays the servers of a redundant set and their client, and shows values and streams of OPC UA.
 #![tactic(auto)]
 
+mod answer;
 mod command;
 mod reading;
 mod replay;
 mod status;
 #[cfg(test)]
 mod tests;
+mod words;
 mod worked;
 mod writing;
 
@@ -30,12 +32,25 @@ fn run_words(rt: &HostRuntime, arguments: &[String]) -> Status {
     run(rt.alloc(), words.as_slice(), &mut input, &mut output)
 }
 
+/// Whether the program's argument at a place is this word.
+fn is_word(rt: &HostRuntime, place: usize, text: &[u8]) -> bool {
+    let mut word = [0u8; 16];
+    match rt.arg(place, &mut word) {
+        Ok(count) => &word[..count] == text,
+        Err(_) => false,
+    }
+}
+
 /// The place of the first word that fits no command, where some word is no UTF-8: such a word fits none.
 fn place_of_faulty(rt: &HostRuntime) -> usize {
-    let mut word = [0u8; 16];
-    match rt.arg(1, &mut word) {
-        Ok(count) if &word[..count] == b"replay".as_slice() => 1,
-        _ => 0,
+    if is_word(rt, 1, b"replay") {
+        1
+    } else if !is_word(rt, 1, b"show") {
+        0
+    } else if is_word(rt, 2, b"value") || is_word(rt, 2, b"stream") {
+        2
+    } else {
+        1
     }
 }
 

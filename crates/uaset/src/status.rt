@@ -16,6 +16,8 @@ pub enum Status {
     Usage { place: usize },
     /// The input is no scenario: its first faulty line, from 1, and what is wrong with it.
     Scenario { line: u64, kind: FaultKind },
+    /// The input isn't what is to be shown: the place of the first fault, from 0, and its code (OPC 10000-4, 7.34).
+    Show { place: u64, code: u32 },
     /// The source failed.
     ReadFault,
     /// The sink failed; what is written is a front of the answer.
@@ -24,6 +26,21 @@ pub enum Status {
     TooLong { bytes: u64 },
     /// There was no memory; what is written is a front of the answer.
     Memory,
+}
+
+/// A status code of OPC UA in eight hexadecimal digits.
+#[derive(Clone, Copy)]
+struct CodeText(u32);
+
+impl fmt::Display for CodeText {
+    ghost use Rattle.std.specs.Prelude.{Some};
+    ghost use Rattle.uaset.specs.Status.{code_text};
+
+    ghost output = { λ code. Some (code_text code.0) };
+
+    fn fmt<W: fmt::Write>(&self, f: &mut fmt::Formatter<W>) -> fmt::Result {
+        write!(f, "{:08X}", self.0)
+    }
 }
 
 impl fmt::Display for Status {
@@ -37,6 +54,7 @@ impl fmt::Display for Status {
             Status::Ok => Ok(()),
             Status::Usage { place } => write!(f, "usage: word {place}"),
             Status::Scenario { line, kind } => write!(f, "line {line}: {kind}"),
+            Status::Show { place, code } => { write!(f, "byte {place}: {}", CodeText(code)) },
             Status::ReadFault => f.write_str("read fault"),
             Status::WriteFault => f.write_str("write fault"),
             Status::TooLong { bytes } => write!(f, "too long: {bytes}"),
@@ -53,6 +71,7 @@ pub fn code_of(status: &Status) -> u8
         Status::Ok => 0,
         Status::Usage { .. } => 2,
         Status::Scenario { .. } => 3,
+        Status::Show { .. } => 6,
         Status::ReadFault => 4,
         Status::WriteFault => 5,
         Status::TooLong { .. } => 7,

@@ -98,12 +98,100 @@ fn faults_of_the_outside_are_told(rt: HostRuntime) -> Result<(), Fail> {
     Ok(())
 }
 
+/// Shows bytes in pieces of three, with these calls of source and sink failing, and compares status and output.
+fn shows(
+    rt: &impl Abort,
+    alloc: Global,
+    words: &[&str],
+    bytes: &[u8],
+    failing: [&[u64]; 2],
+    status: Status,
+    written: &str,
+) -> Result<(), Fail> {
+    let bytes = Vec::from_slice(alloc, bytes)?;
+    let mut input = MemSource::new(bytes, Vec::from_slice(alloc, failing[0])?).in_pieces(3);
+    let mut output = MemSink::new(Vec::new(alloc), Vec::from_slice(alloc, failing[1])?).in_pieces(
+        5,
+    );
+    assert_eq!(rt; run(alloc, words, &mut input, &mut output), status);
+    assert_eq!(rt; output.as_bytes(), written.as_bytes());
+    Ok(())
+}
+
+#[test]
+fn values_are_shown(rt: HostRuntime) -> Result<(), Fail> {
+    let words: &[&str] = &["show", "value"];
+    let bytes: &[u8] = &[5, 8, 5, 0, 0, 0, 0, 0, 0, 0, 10, 0, 0, 0, 0, 0, 0, 0];
+    let fault = Status::Show {
+        place: 1,
+        code: 0x8007_0000,
+    };
+    let alloc = rt.alloc();
+    shows(
+        &rt,
+        alloc,
+        words,
+        bytes,
+        [&[], &[]],
+        Status::Ok,
+        "value 8 5\nsource 10\n",
+    )?;
+    shows(&rt, alloc, words, &[1, 0x1a], [&[], &[]], fault, "")?;
+    shows(&rt, alloc, words, &[1], [&[], &[]], fault, "")?;
+    shows(&rt, alloc, words, bytes, [&[2], &[]], Status::ReadFault, "")?;
+    shows(
+        &rt,
+        alloc,
+        words,
+        bytes,
+        [&[], &[2]],
+        Status::WriteFault,
+        "value",
+    )
+}
+
+#[test]
+fn streams_are_shown(rt: HostRuntime) -> Result<(), Fail> {
+    let words: &[&str] = &["show", "stream"];
+    let text = "frame 0 MSG F 8\nframe 8 CLO F 9\nrest 2\n";
+    let bytes: &[u8] = b"MSGF\x08\0\0\0CLOF\x09\0\0\0aHE";
+    let fault = Status::Show {
+        place: 8,
+        code: 0x807e_0000,
+    };
+    let alloc = rt.alloc();
+    shows(&rt, alloc, words, bytes, [&[], &[]], Status::Ok, text)?;
+    shows(
+        &rt,
+        alloc,
+        words,
+        b"MSGF\x08\0\0\0MSGX\x09\0\0\0",
+        [&[], &[]],
+        fault,
+        "",
+    )?;
+    shows(&rt, alloc, words, bytes, [&[2], &[]], Status::ReadFault, "")?;
+    shows(
+        &rt,
+        alloc,
+        words,
+        bytes,
+        [&[], &[1]],
+        Status::WriteFault,
+        "",
+    )
+}
+
 #[test]
 fn words_and_statuses(rt: HostRuntime) -> Result<(), Fail> {
     let alloc = rt.alloc();
-    let rows: [(&[&str], usize); 4] = [
+    let rows: [(&[&str], usize); 8] = [
         (&[], 0),
         (&["play"], 0),
+        (&["show"], 1),
+        (&["show", "Value"], 1),
+        (&["show", "value", "x"], 2),
+        (&["value"], 0),
         (&["replay", "x"], 1),
         (&["replay", "replay", "x"], 1),
     ];
@@ -125,6 +213,14 @@ fn words_and_statuses(rt: HostRuntime) -> Result<(), Fail> {
             },
             3,
             "line 4: time not rising",
+        ),
+        (
+            Status::Show {
+                place: 1,
+                code: 0x807e_0000,
+            },
+            6,
+            "byte 1: 807E0000",
         ),
         (Status::ReadFault, 4, "read fault"),
         (Status::WriteFault, 5, "write fault"),

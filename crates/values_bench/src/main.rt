@@ -17,6 +17,7 @@ use ua_values::{
     write_sbyte, write_status_code, write_string, write_uint16, write_uint32, write_uint64,
     write_xml_element,
 };
+use ua_variants::{DataValue, Scalar, Variant, read_data_value, write_data_value};
 use uuid::Uuid;
 
 /// How many bytes are written and read of each type, or a few more.
@@ -295,10 +296,33 @@ fn measure_all(rt: &HostRuntime) -> io::Result<()> {
     )
 }
 
+/// What a set sends all day: an Int64 with its status and its source's time.
+fn measure_data_value(rt: &HostRuntime) -> io::Result<()> {
+    let alloc = rt.alloc();
+    let value = DataValue {
+        value: Some(Variant::Scalar(Scalar::Int64(-7))),
+        status: Some(0),
+        source_timestamp: Some(132_000_000_000_000_000),
+        source_picoseconds: None,
+        server_timestamp: None,
+        server_picoseconds: None,
+    };
+    measure(
+        rt,
+        "DataValue",
+        |to: &mut Vec<u8>| write_data_value(&value, to),
+        |from: &[u8]| seen(
+            read_data_value(alloc, from),
+            |value: &DataValue| value.source_timestamp == Some(132_000_000_000_000_000),
+        ),
+    )
+}
+
 fn main(rt: HostRuntime) -> io::Result<()> {
     for word in env::args(&rt)?.skip(1) {
         if word.as_str() == "run" {
-            return measure_all(&rt);
+            measure_all(&rt)?;
+            return measure_data_value(&rt);
         }
     }
     Ok(())

@@ -1,4 +1,4 @@
-use Rattle.std.proofs.Common.{rules, ℕ, ◌≡◌, ◌++◌, ◌%◌, ◌^◌, length, replicate}
+use Rattle.std.proofs.Common.{rules, ℕ, List, ◌≡◌, ◌++◌, ◌%◌, ◌^◌, length, replicate}
 use Rattle.std.proofs.lemmas.List.{length-replicate}
 use Rattle.std.specs.List.{flat_map}
 use Rattle.byteorder.specs.Endian.{little_bytes}
@@ -72,7 +72,9 @@ put_variant-returns-in_ok-put_diagnostics-in-DiagnosticInfos t c =
     let n = c.in-DiagnosticInfos.count in
     let sizes = c.in-DiagnosticInfos.sizes in
     let first : c.put_head-in-DiagnosticInfos.new.to.items ≡ c.args.to.now.items ++ written_head kind.DiagnosticInfo sizes = search rules in
-    let second : c.put_count-in-DiagnosticInfos.new.to.items ≡ c.put_head-in-DiagnosticInfos.new.to.items ++ little_bytes 4 (length (replicate n 0) % 2 ^ 32) = rw (length-replicate {A = ℕ} n 0) (search rules) in
+    let zeros : List ℕ = replicate n 0 in
+    let many : length zeros ≡ n = length-replicate {A = ℕ} n 0 in
+    let second : c.put_count-in-DiagnosticInfos.new.to.items ≡ c.put_head-in-DiagnosticInfos.new.to.items ++ little_bytes 4 (length zeros % 2 ^ 32) = rw many (search rules) in
     let third : c.put_diagnostics.new.to.items ≡ c.put_count-in-DiagnosticInfos.new.to.items ++ flat_map (little_bytes 1) (replicate n 0) = search rules in
     rw (c.in-DiagnosticInfos.is, written_diagnostics n sizes)
     (four c.put_shape-in-DiagnosticInfos.result c.args.to.now.items c.put_head-in-DiagnosticInfos.new.to.items c.put_count-in-DiagnosticInfos.new.to.items c.put_diagnostics.new.to.items c.put_shape-in-DiagnosticInfos.new.to.items (written_head kind.DiagnosticInfo sizes) (little_bytes 4 (length (replicate n 0) % 2 ^ 32)) (flat_map (little_bytes 1) (replicate n 0)) (written_shape sizes) first second third c.put_shape-in-DiagnosticInfos.ensures)

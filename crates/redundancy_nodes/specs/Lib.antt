@@ -1,0 +1,5 @@
+pub mod Class
+pub mod Node
+pub mod Texts
+pub mod Values
+pub mod Read

@@ -1,0 +1,50 @@
+//! The forms of the values that nodes have.
+
+ghost use Rattle.std.specs.Prelude.{◌≡◌};
+ghost use Rattle.redundancy_nodes.specs.Values.{item_value, sampled, texts_value, timeless};
+
+use set_model::Change;
+use sqlite_items::Items;
+use ua_values::UaText;
+use ua_variants::{Array, DataValue, Scalar, Variant};
+
+/// A value, if there is one, with its source time, if it has one.
+fn sampled(value: Option<Variant>, time: Option<i64>) -> DataValue
+    ensures { result ≡ sampled value time }
+{
+    DataValue {
+        value,
+        status: None,
+        source_timestamp: time,
+        source_picoseconds: None,
+        server_timestamp: None,
+        server_picoseconds: None,
+    }
+}
+
+/// A value that has no time.
+pub(crate) fn timeless(value: Variant) -> DataValue
+    ensures { result ≡ timeless value }
+{
+    sampled(Some(value), None)
+}
+
+/// An array of texts.
+pub(crate) fn texts_value(texts: Vec<UaText>) -> DataValue
+    ensures { result ≡ texts_value texts.items }
+{
+    timeless(Variant::Array(Array::String(Items::from_vec(texts)), None))
+}
+
+/// The value of an item with this current change.
+pub(crate) fn item_value(change: Option<Change>) -> DataValue
+    ensures { result ≡ item_value change }
+{
+    match change {
+        None => sampled(None, None),
+        Some(change) => sampled(
+            Some(Variant::Scalar(Scalar::Int64(change.value))),
+            Some(change.time),
+        ),
+    }
+}

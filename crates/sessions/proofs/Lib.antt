@@ -1,0 +1,9 @@
+pub mod Counters
+pub mod Firsts
+pub mod Moments
+pub mod Owners
+pub mod Room
+pub mod Steps
+pub mod Tidy
+pub mod TokenLemmas
+pub mod Waiting

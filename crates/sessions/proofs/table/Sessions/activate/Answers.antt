@@ -1,0 +1,27 @@
+use Rattle.std.proofs.Common.{◌∙◌, sym, ap, refl}
+use Rattle.ua_base.specs.declared.status.TheConstants.{BAD_SESSION_ID_INVALID}
+use Rattle.sessions.specs.declared.fault.SessionFault.TheVariants.{Code}
+use Rattle.sessions.specs.Session as one
+use Rattle.sessions.specs.Table.{answer_of}
+use Rattle.sessions.proofs.Firsts.{first_of, none_of}
+use Rattle.sessions.proofs.table.Sessions.activate.Goals as goal
+
+pub returns-in-Some-clause-answer : goal.returns-in-Some-clause-answer
+returns-in-Some-clause-answer c =
+    let h = first_of _ _ _ _ _ _ c.place_of.ensures.place c.deref.ensures.value c.in-Some.is c.index_mut.ensures.value in
+    rw (← c.self.view_is) (c.activate.ensures.answer ∙ sym (ap (answer_of (Code BAD_SESSION_ID_INVALID) (one.activate_answer c.args.conn)) h.found))
+
+pub returns-in-Some-clause-after : goal.returns-in-Some-clause-after
+returns-in-Some-clause-after c =
+    let h = first_of _ _ _ _ _ _ c.place_of.ensures.place c.deref.ensures.value c.in-Some.is c.index_mut.ensures.value in
+    rw (← c.self.view_is, h.changes, ← c.activate.ensures.after) refl
+
+pub returns-in-None-clause-answer : goal.returns-in-None-clause-answer
+returns-in-None-clause-answer c =
+    let h = none_of _ _ _ _ c.place_of.ensures.place c.deref.ensures.value c.in-None.is in
+    rw (← c.self.view_is, h.found) refl
+
+pub returns-in-None-clause-after : goal.returns-in-None-clause-after
+returns-in-None-clause-after c =
+    let h = none_of _ _ _ _ c.place_of.ensures.place c.deref.ensures.value c.in-None.is in
+    rw (← c.self.view_is, h.changes) refl

@@ -1,0 +1,5 @@
+use Rattle.uaset.proofs.Trust.{report_promised}
+use Rattle.uaset.proofs.answer.replayed.Goals as goal
+
+pub returns-in-Ok-clause-means : goal.returns-in-Ok-clause-means
+returns-in-Ok-clause-means c = report_promised c.args.bytes.now c.in-Ok.text.items c.in-Ok.ensures

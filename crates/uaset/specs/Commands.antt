@@ -1,0 +1,61 @@
+-- What each command answers of its whole input, and what that means.
+use Rattle.std.specs.Prelude.{◌≡◌, ℕ, List, None, Result, Ok, Err}
+use Rattle.delivery_log.specs.Caused.{Caused}
+use Rattle.delivery_log.specs.Safe.{InOrder, Safe}
+use Rattle.set_model.specs.Report.{report_text}
+use Rattle.scenario.specs.declared.line.Line.{Line}
+use Rattle.scenario.specs.declared.fault.ScenarioFault.{ScenarioFault}
+use Rattle.scenario.specs.Past.{changes_in}
+use Rattle.scenario.specs.Scenario.{scenario_of}
+use Rattle.ua_variants.specs.declared.variant.Variant.{Variant}
+use Rattle.ua_variants.specs.declared.variant.Stamped.{Stamped}
+use Rattle.ua_variants.specs.Grammar.{data_value}
+use Rattle.show.specs.Text.{value_text}
+use Rattle.ua_chunks.specs.Frames.{Split, fault_of}
+use Rattle.ua_chunks.specs.Streams.{IsFramed}
+use Rattle.show.specs.Answer as shows
+use Rattle.show.specs.Value.{shown_value}
+use Rattle.show.specs.Stream.{stream_text, shown_stream}
+use Rattle.uaset.specs.declared.words.Command.{Command}
+use Rattle.uaset.specs.declared.words.Command.TheVariants as command
+use Rattle.uaset.specs.declared.answer.Refusal.{Refusal}
+use Rattle.uaset.specs.declared.answer.Refusal.TheVariants as refusal
+use Rattle.uaset.specs.Answer.{answer_of, client_log, past_of}
+
+-- ---- the answer
+
+abbrev pub replayed : Result (List ℕ) ScenarioFault → Result (List ℕ) Refusal
+replayed (Ok text) = Ok text
+replayed (Err fault) = Err (refusal.Scenario fault.line fault.kind)
+
+abbrev pub shown : Result (List ℕ) shows.Refusal → Result (List ℕ) Refusal
+shown (Ok text) = Ok text
+shown (Err fault) = Err (refusal.Show fault.place fault.code)
+
+-- the text, or the first fault
+abbrev pub answer_to : Command → List ℕ → Result (List ℕ) Refusal
+answer_to command.Replay bytes = replayed (answer_of bytes)
+answer_to command.ShowValue bytes = shown (shown_value bytes)
+answer_to command.ShowStream bytes = shown (shown_stream bytes)
+
+-- what a call answered is this, unless memory was refused
+abbrev pub Answered : {A : Type 0} → (A → List ℕ) → Result A Refusal → Result (List ℕ) Refusal → Type 0
+Answered view (Ok text) answer = answer ≡ Ok (view text)
+Answered view (Err refusal.OutOfMemory) answer = Unit {0}
+Answered view (Err (refusal.Scenario line kind)) answer = answer ≡ Err (refusal.Scenario line kind)
+Answered view (Err (refusal.Show place code)) answer = answer ≡ Err (refusal.Show place code)
+
+-- ---- what it means
+
+-- what the client's log of a scenario's lines is, with the lines' own changes as the one source
+pub record IsTrustworthy (lines : List Line) : Type 0 where
+  pub safe : Safe (changes_in lines) (client_log lines)
+  pub order : InOrder (changes_in lines) (client_log lines)
+  pub caused : Caused (past_of lines) (client_log lines)
+
+-- the text is the report of a log that can be trusted; or what the one value holds that the whole input spells; or a line
+-- for each of the frames that the input begins with, as many as there are, and how many bytes follow
+abbrev pub Means : Command → List ℕ → List ℕ → Type 0
+Means command.Replay bytes text = (lines : List Line) × (scenario_of 0 bytes ≡ Ok lines) × (text ≡ report_text (client_log lines)) × IsTrustworthy lines
+Means command.ShowValue bytes text = (d : Stamped Variant) × data_value 101 d bytes × (text ≡ value_text d)
+Means command.ShowStream bytes text = (split : Split) × IsFramed 0 bytes split × (fault_of split.rest ≡ None) × (text ≡ stream_text split)

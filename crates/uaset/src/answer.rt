@@ -1,0 +1,78 @@
+//! What each command answers of its whole input.
+
+ghost use Rattle.std.specs.Prelude.{IfOk};
+ghost use Rattle.scenario.specs.Scenario.{scenario_of};
+ghost use Rattle.show.specs.Value.{shown_value};
+ghost use Rattle.show.specs.Stream.{shown_stream};
+ghost use Rattle.uaset.specs.Answer.{Gives, answer_of};
+ghost use Rattle.uaset.specs.Commands.{Answered, Means, answer_to, replayed, shown};
+
+use crate::replay::replay;
+use crate::words::Command;
+use scenario::{FaultKind, ReadError};
+use show::{ShowFault, show_stream, show_value};
+use std::alloc::Global;
+
+/// Why there is no answer.
+#[derive(Clone, Copy, Debug, PartialEq, Eq)]
+pub(crate) enum Refusal {
+    /// The input is no scenario.
+    Scenario { line: u64, kind: FaultKind },
+    /// The input isn't what is to be shown.
+    Show { place: u64, code: u32 },
+    /// Memory was refused.
+    OutOfMemory,
+}
+
+/// The report of a scenario.
+fn replayed(alloc: Global, bytes: &[u8]) -> Result<Vec<u8>, Refusal>
+    ensures exact { Answered (λ text. text.items) result (replayed (answer_of bytes.now)) }
+    ensures means { IfOk result (λ text. Means Command.Replay bytes.now text.items) }
+{
+    match replay(alloc, bytes) {
+        Ok(text) => Ok(text),
+        Err(ReadError::Fault(fault)) => Err(Refusal::Scenario {
+            line: fault.line,
+            kind: fault.kind,
+        }),
+        Err(ReadError::OutOfMemory) => Err(Refusal::OutOfMemory),
+    }
+}
+
+/// What a DataValue holds.
+fn value(alloc: Global, bytes: &[u8]) -> Result<Vec<u8>, Refusal>
+    ensures exact { Answered (λ text. text.items) result (shown (shown_value bytes.now)) }
+    ensures means { IfOk result (λ text. Means Command.ShowValue bytes.now text.items) }
+{
+    match show_value(alloc, bytes) {
+        Ok(text) => Ok(text),
+        Err(ShowFault::Bad { place, code }) => Err(Refusal::Show { place, code }),
+        Err(ShowFault::OutOfMemory) => Err(Refusal::OutOfMemory),
+    }
+}
+
+/// The frames of a stream.
+fn stream(alloc: Global, bytes: &[u8]) -> Result<Vec<u8>, Refusal>
+    ensures exact { Answered (λ text. text.items) result (shown (shown_stream bytes.now)) }
+    ensures means { IfOk result (λ text. Means Command.ShowStream bytes.now text.items) }
+{
+    match show_stream(alloc, bytes) {
+        Ok(text) => Ok(text),
+        Err(ShowFault::Bad { place, code }) => Err(Refusal::Show { place, code }),
+        Err(ShowFault::OutOfMemory) => Err(Refusal::OutOfMemory),
+    }
+}
+
+impl Command {
+    /// What the command writes of this input.
+    pub(crate) fn answer(self, alloc: Global, bytes: &[u8]) -> Result<Vec<u8>, Refusal>
+        ensures exact { Answered (λ text. text.items) result (answer_to self bytes.now) }
+        ensures means { IfOk result (λ text. Means self bytes.now text.items) }
+    {
+        match self {
+            Command::Replay => replayed(alloc, bytes),
+            Command::ShowValue => value(alloc, bytes),
+            Command::ShowStream => stream(alloc, bytes),
+        }
+    }
+}
