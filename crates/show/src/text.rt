@@ -1,13 +1,11 @@
 //! The text of single values, and lines of it.
 
-ghost use Rattle.std.specs.Prelude.{◌≡◌, ◌++◌, List, ℕ, codes, OnOk, IfOk, IfSome};
+ghost use Rattle.std.specs.Prelude.{◌≡◌, ◌++◌, List, ℕ, codes, OnOk, IfOk};
 ghost use Rattle.std.specs.String.{string_bytes};
 ghost use Rattle.std.specs.Fmt.{decimal, signed_decimal};
-ghost use Rattle.ua_values.specs.Written.{written_text};
 ghost use Rattle.show.specs.Text.{boolean_text, guid_text, status_text, bytes_text, element_line, element_lines, written_lines};
 
 use std::alloc::{AllocError, Global};
-use std::fmt::Display;
 use ua_base::OutOfMemory;
 use ua_values::Element;
 use uuid::Uuid;
@@ -16,6 +14,7 @@ use uuid::Uuid;
 pub(crate) trait Plain {
     ghost text: { Self → List ℕ };
 
+    /// Its text.
     fn plain(&self, alloc: Global) -> Result<String, AllocError>
         ensures { IfOk result (λ t. string_bytes t ≡ text self.now) };
 }
