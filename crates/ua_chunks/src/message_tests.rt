@@ -200,7 +200,9 @@ fn frame(
 }
 
 /// What an assembler answered: the request and the length of a message, or nothing, or a fault.
-fn told(answer: Result<Option<Message>, FrameFault>) -> Result<Option<(u32, usize)>, FrameFault> {
+type Told = Result<Option<(u32, usize)>, FrameFault>;
+
+fn told(answer: Result<Option<Message>, FrameFault>) -> Told {
     match answer {
         Ok(Some(message)) => Ok(Some((message.request, message.body.len()))),
         Ok(None) => Ok(None),
@@ -208,106 +210,135 @@ fn told(answer: Result<Option<Message>, FrameFault>) -> Result<Option<(u32, usiz
     }
 }
 
-/// Does a step of a script; `first` is the fault that came before, with its place.
+/// Adds a MSG, and tells the answer.
+fn add(
+    alloc: Global,
+    assembler: &mut Assembler,
+    place: u64,
+    chunk: Chunk,
+    head: [u32; 4],
+    count: usize,
+) -> Result<Told, Fail> {
+    let frame = frame(alloc, place, chunk, head, count)?;
+    Ok(told(assembler.add(alloc, &frame)))
+}
+
+fn same(rt: &impl Abort, answer: Told, want: Told, number: u32) {
+    assert_eq!(rt; answer, want, "{number}");
+}
+
+/// Adds a frame of so many bytes in all.
+fn short(
+    rt: &impl Abort,
+    alloc: Global,
+    assembler: &mut Assembler,
+    place: u64,
+    count: usize,
+) -> Result<(), Fail> {
+    let frame = Frame {
+        place,
+        kind: Kind::Msg,
+        chunk: Final,
+        body: Body::new(vec![in alloc; 1; count]?),
+    };
+    let code = DECODING;
+    let want = Err(FrameFault::Bad { place, code });
+    same(rt, told(assembler.add(alloc, &frame)), want, 0);
+    Ok(())
+}
+
+/// Adds so many empty middle chunks.
+fn many(
+    rt: &impl Abort,
+    alloc: Global,
+    assembler: &mut Assembler,
+    place: u64,
+    from: u32,
+    count: u32,
+) -> Result<(), Fail> {
+    for more in 0..count {
+        let number = from.saturating_add(more);
+        let answer = add(alloc, assembler, place, Middle, [1, 1, number, 1], 0)?;
+        same(rt, answer, Ok(None), number);
+    }
+    Ok(())
+}
+
+/// Takes an OPN's number.
+fn opens(rt: &impl Abort, assembler: &mut Assembler, place: u64, number: u32, is_taken: bool) {
+    let code = NUMBER;
+    let want = if is_taken {
+        Ok(())
+    } else {
+        Err(FrameFault::Bad { place, code })
+    };
+    assert_eq!(rt; assembler.take_number(place, number), want, "{number}");
+}
+
+/// Does a step of a script; `first` is where the first fault was, or will be.
 fn do_step(
     rt: &impl Abort,
     alloc: Global,
     assembler: &mut Assembler,
     place: u64,
     step: Step,
-    first: Option<u64>,
-) -> Result<bool, Fail> {
+    first: u64,
+) -> Result<(), Fail> {
     match step {
         Goes(chunk, channel, token, number, request, count) => {
-            let frame = frame(
-                alloc,
-                place,
-                chunk,
-                [channel, token, number, request],
-                count,
-            )?;
-            assert_eq!(rt; told(assembler.add(alloc, &frame)), Ok(None), "{number}");
+            let head = [channel, token, number, request];
+            let answer = add(alloc, assembler, place, chunk, head, count)?;
+            same(rt, answer, Ok(None), number);
         }
         Ends(channel, token, number, request, count, size) => {
-            let frame = frame(
-                alloc,
-                place,
-                Final,
-                [channel, token, number, request],
-                count,
-            )?;
-            assert_eq!(rt;
-                told(assembler.add(alloc, &frame)),
-                Ok(Some((request, size))),
-                "{number}"
-            );
+            let head = [channel, token, number, request];
+            let answer = add(alloc, assembler, place, Final, head, count)?;
+            same(rt, answer, Ok(Some((request, size))), number);
         }
         Fails(chunk, channel, token, number, request, count, code) => {
-            let frame = frame(
-                alloc,
-                place,
-                chunk,
-                [channel, token, number, request],
-                count,
-            )?;
-            let place = first.unwrap_or(place);
-            assert_eq!(rt;
-                told(assembler.add(alloc, &frame)),
-                Err(FrameFault::Bad { place, code }),
-                "{number}"
-            );
-            return Ok(true);
-        }
-        Short(count) => {
-            let frame = Frame {
-                place,
-                kind: Kind::Msg,
-                chunk: Final,
-                body: Body::new(vec![in alloc; 1; count]?),
-            };
-            let code = DECODING;
-            assert_eq!(rt;
-                told(assembler.add(alloc, &frame)),
-                Err(FrameFault::Bad { place, code })
+            let head = [channel, token, number, request];
+            let answer = add(alloc, assembler, place, chunk, head, count)?;
+            same(
+                rt,
+                answer,
+                Err(FrameFault::Bad { place: first, code }),
+                number,
             );
         }
-        Many(from, count) => {
-            for more in 0..count {
-                let number = from.saturating_add(more);
-                let frame = frame(alloc, place, Middle, [1, 1, number, 1], 0)?;
-                assert_eq!(rt; told(assembler.add(alloc, &frame)), Ok(None), "{number}");
-            }
-        }
+        Short(count) => short(rt, alloc, assembler, place, count)?,
+        Many(from, count) => many(rt, alloc, assembler, place, from, count)?,
         Renew(channel, token) => assembler.renew(channel, token),
-        Number(number, is_taken) => {
-            let want = if is_taken {
-                Ok(())
-            } else {
-                Err(FrameFault::Bad {
-                    place,
-                    code: NUMBER,
-                })
-            };
-            assert_eq!(rt; assembler.take_number(place, number), want, "{number}");
-        }
+        Number(number, is_taken) => opens(rt, assembler, place, number, is_taken),
     }
-    Ok(false)
+    Ok(())
+}
+
+/// Does the steps of a script, each frame one place further.
+fn do_steps(rt: &impl Abort, alloc: Global, script: &[Step]) -> Result<(), Fail> {
+    let mut assembler = Assembler::new(alloc, 1, 1);
+    let mut place: u64 = 100;
+    let mut first = None;
+    for step in script {
+        if matches!(step, Fails(..)) && first.is_none() {
+            first = Some(place);
+        }
+        do_step(
+            rt,
+            alloc,
+            &mut assembler,
+            place,
+            *step,
+            first.unwrap_or(place),
+        )?;
+        place = place.saturating_add(1);
+    }
+    Ok(())
 }
 
 #[test]
 fn judges_chunks(rt: HostRuntime) -> Result<(), Fail> {
-    let alloc = rt.alloc();
     for script in SCRIPTS {
-        let mut assembler = Assembler::new(alloc, 1, 1);
-        let mut place: u64 = 100;
-        let mut first = None;
-        for one in *script {
-            let fails = do_step(&rt, alloc, &mut assembler, place, *one, first)?;
-            if fails && first.is_none() {
-                first = Some(place);
-            }
-            place = place.saturating_add(1);
-        }
+        do_steps(&rt, rt.alloc(), script)?;
     }
     Ok(())
 }
@@ -360,6 +391,41 @@ fn sizes(rt: &impl Abort, alloc: Global, bytes: &[u8], body: &[u8]) -> Result<Ve
     Ok(sizes)
 }
 
+/// The message is put behind what the list has, in frames of these sizes.
+fn is_put(
+    rt: &impl Abort,
+    alloc: Global,
+    sender: &mut Sender,
+    body: &[u8],
+    want: &[usize],
+) -> Result<(), Fail> {
+    let mut to = Vec::from_slice(alloc, b"..")?;
+    assert_eq!(rt; sender.put(alloc, Kind::Msg, 5, body, &mut to), Ok(()));
+    let Some(bytes) = to.strip_prefix(b"..") else {
+        panic!(rt; "the list's own bytes went");
+    };
+    assert_eq!(rt; sizes(rt, alloc, bytes, body)?.as_slice(), want);
+    Ok(())
+}
+
+/// The message is refused with this limit, and uses up no sequence number.
+fn is_refused(
+    rt: &impl Abort,
+    alloc: Global,
+    sender: &mut Sender,
+    body: &[u8],
+    limit: u64,
+) -> Result<(), Fail> {
+    let size = body.len() as u64;
+    let mut to = Vec::from_slice(alloc, b"..")?;
+    let answer = sender.put(alloc, Kind::Msg, 5, body, &mut to);
+    assert_eq!(rt; answer, Err(PutFault::TooLarge { size, limit }));
+    assert_eq!(rt; to.as_slice(), b"..".as_slice());
+    assert_eq!(rt; sender.put(alloc, Kind::Msg, 5, b"", &mut to), Ok(()));
+    assert_eq!(rt; to.get(18..22), Some([1, 0, 0, 0].as_slice()));
+    Ok(())
+}
+
 #[test]
 fn puts_messages(rt: HostRuntime) -> Result<(), Fail> {
     let alloc = rt.alloc();
@@ -369,27 +435,9 @@ fn puts_messages(rt: HostRuntime) -> Result<(), Fail> {
         }
         let mut sender = Sender::new(3, 4, *size, *max_message, *max_chunks);
         let body = vec![in alloc; 9; *count]?;
-        let mut to = Vec::from_slice(alloc, b"..")?;
-        let answer = sender.put(alloc, Kind::Msg, 5, &body, &mut to);
         match want {
-            Ok(want) => {
-                assert_eq!(rt; answer, Ok(()));
-                let Some(bytes) = to.strip_prefix(b"..") else {
-                    panic!(rt; "the list's own bytes went");
-                };
-                assert_eq!(rt; sizes(&rt, alloc, bytes, &body)?.as_slice(), *want);
-            }
-            Err(limit) => {
-                let fault = PutFault::TooLarge {
-                    size: *count as u64,
-                    limit: *limit,
-                };
-                assert_eq!(rt; answer, Err(fault));
-                assert_eq!(rt; to.as_slice(), b"..".as_slice());
-                // no sequence number was used up
-                assert_eq!(rt; sender.put(alloc, Kind::Msg, 5, b"", &mut to), Ok(()));
-                assert_eq!(rt; to.get(18..22), Some([1, 0, 0, 0].as_slice()));
-            }
+            Ok(want) => is_put(&rt, alloc, &mut sender, &body, want)?,
+            Err(limit) => is_refused(&rt, alloc, &mut sender, &body, *limit)?,
         }
     }
     Ok(())
@@ -418,27 +466,37 @@ fn puts_the_largest_message(rt: HostRuntime) -> Result<(), Fail> {
 const HELLO: &str = "48454c4630000000000000000000010000000100000000000000000010000000\
                      6f70632e7463703a2f2f613a34383430";
 
-#[test]
-fn reads_and_writes_greetings(rt: HostRuntime) -> Result<(), Fail> {
-    let alloc = rt.alloc();
-    let hello = bytes_of(&rt, alloc, HELLO)?;
-    let Some((_, body)) = hello.split_at_checked(8) else {
+/// The body of a frame.
+fn body_of<'a>(rt: &impl Abort, frame: &'a [u8]) -> &'a [u8] {
+    let Some((_, body)) = frame.split_at_checked(8) else {
         panic!(rt; "no header");
     };
-    let (greeting, url) = read_hello(alloc, body)?;
-    let want = Greeting {
-        version: 0,
-        receive: 65_536,
-        send: 65_536,
-        max_message: 0,
-        max_chunks: 0,
-    };
-    assert_eq!(rt; greeting, want);
-    assert_eq!(rt; url.bytes(), Some(b"opc.tcp://a:4840".as_slice()));
+    body
+}
+
+/// A greeting and its URL are read and written.
+fn hello_is(
+    rt: &impl Abort,
+    alloc: Global,
+    hello: &[u8],
+    want: &Greeting,
+    url: &[u8],
+) -> Result<(), Fail> {
+    let (greeting, read) = read_hello(alloc, body_of(rt, hello))?;
+    assert_eq!(rt; greeting, *want);
+    assert_eq!(rt; read.bytes(), Some(url));
+    if url.len() > 4091 {
+        panic!(rt; "too long a URL");
+    }
+    let text = UaText::new(Vec::from_slice(alloc, url)?);
     let mut to = Vec::from_slice(alloc, b"..")?;
-    let url = UaText::new(Vec::from_slice(alloc, b"opc.tcp://a:4840")?);
-    assert_eq!(rt; write_hello(alloc, &want, &url, &mut to), Ok(()));
-    assert_eq!(rt; to.strip_prefix(b".."), Some(hello.as_slice()));
+    assert_eq!(rt; write_hello(alloc, want, &text, &mut to), Ok(()));
+    assert_eq!(rt; to.strip_prefix(b".."), Some(hello));
+    Ok(())
+}
+
+/// Each front of a body ends early, and a byte more is left over.
+fn hello_ends(rt: &impl Abort, alloc: Global, body: &[u8]) -> Result<(), Fail> {
     for count in 0..body.len() {
         let front = body.split_at(count).0;
         assert_eq!(rt;
@@ -450,12 +508,17 @@ fn reads_and_writes_greetings(rt: HostRuntime) -> Result<(), Fail> {
     let mut more = Vec::from_slice(alloc, body)?;
     more.push(0)?;
     let left = ValueFault::Bad {
-        place: 40,
+        place: body.len(),
         code: DECODING,
     };
     assert_eq!(rt; read_hello(alloc, &more).err(), Some(left));
+    Ok(())
+}
+
+/// A URL may be null, and not too long.
+fn hello_keeps_text(rt: &impl Abort, alloc: Global) -> Result<(), Fail> {
     let null = bytes_of(
-        &rt,
+        rt,
         alloc,
         "0100000002000000030000000400000005000000feffffff",
     )?;
@@ -463,7 +526,7 @@ fn reads_and_writes_greetings(rt: HostRuntime) -> Result<(), Fail> {
     assert_eq!(rt; greeting.send, 3);
     assert!(rt; url.is_null());
     let long = bytes_of(
-        &rt,
+        rt,
         alloc,
         "010000000200000003000000040000000500000001001000",
     )?;
@@ -472,6 +535,69 @@ fn reads_and_writes_greetings(rt: HostRuntime) -> Result<(), Fail> {
         code: 0x8008_0000,
     };
     assert_eq!(rt; read_hello(alloc, &long).err(), Some(fault));
+    Ok(())
+}
+
+#[test]
+fn reads_and_writes_greetings(rt: HostRuntime) -> Result<(), Fail> {
+    let alloc = rt.alloc();
+    let want = Greeting {
+        version: 0,
+        receive: 65_536,
+        send: 65_536,
+        max_message: 0,
+        max_chunks: 0,
+    };
+    let hello = bytes_of(&rt, alloc, HELLO)?;
+    hello_is(&rt, alloc, &hello, &want, b"opc.tcp://a:4840")?;
+    hello_ends(&rt, alloc, body_of(&rt, &hello))?;
+    hello_keeps_text(&rt, alloc)
+}
+
+/// An ACK is written and read, no front of its body, and no byte more.
+fn ack_is(rt: &impl Abort, alloc: Global, ack: &[u8], greeting: &Greeting) -> Result<(), Fail> {
+    let mut to = Vec::new(alloc);
+    assert_eq!(rt; write_ack(alloc, greeting, &mut to), Ok(()));
+    assert_eq!(rt; to.as_slice(), ack);
+    let body = body_of(rt, ack);
+    assert_eq!(rt; read_ack(body), Ok(*greeting));
+    for count in 0..body.len() {
+        assert_eq!(rt;
+            read_ack(body.split_at(count).0),
+            Err(ValueFault::Short),
+            "{count}"
+        );
+    }
+    let left = ValueFault::Bad {
+        place: 20,
+        code: DECODING,
+    };
+    let mut more = Vec::from_slice(alloc, body)?;
+    more.push(7)?;
+    assert_eq!(rt; read_ack(&more), Err(left));
+    Ok(())
+}
+
+/// An ERR is written, and read with any reason.
+fn err_is(rt: &impl Abort, alloc: Global) -> Result<(), Fail> {
+    let mut to = Vec::new(alloc);
+    assert_eq!(rt; write_err(alloc, 0x8055_0000, &mut to), Ok(()));
+    let err = bytes_of(rt, alloc, "455252461000000000005580ffffffff")?;
+    assert_eq!(rt; to.as_slice(), err.as_slice());
+    let left = ValueFault::Bad {
+        place: 8,
+        code: DECODING,
+    };
+    let rows = [
+        ("00005580ffffffff", Ok(0x8055_0000)),
+        ("0000558002000000", Err(ValueFault::Short)),
+        ("00005580020000006e6f", Ok(0x8055_0000)),
+        ("00005580ffffffff00", Err(left)),
+        ("000055", Err(ValueFault::Short)),
+    ];
+    for (body, want) in rows {
+        assert_eq!(rt; read_err(alloc, &bytes_of(rt, alloc, body)?), want);
+    }
     Ok(())
 }
 
@@ -490,48 +616,8 @@ fn reads_and_writes_ack_and_err(rt: HostRuntime) -> Result<(), Fail> {
         max_message: 1_048_576,
         max_chunks: 64,
     };
-    let mut to = Vec::new(alloc);
-    assert_eq!(rt; write_ack(alloc, &greeting, &mut to), Ok(()));
-    assert_eq!(rt; to.as_slice(), ack.as_slice());
-    let Some((_, body)) = ack.split_at_checked(8) else {
-        panic!(rt; "no header");
-    };
-    assert_eq!(rt; read_ack(body), Ok(greeting));
-    for count in 0..body.len() {
-        assert_eq!(rt;
-            read_ack(body.split_at(count).0),
-            Err(ValueFault::Short),
-            "{count}"
-        );
-    }
-    let left = ValueFault::Bad {
-        place: 20,
-        code: DECODING,
-    };
-    let mut more = Vec::from_slice(alloc, body)?;
-    more.push(7)?;
-    assert_eq!(rt; read_ack(&more), Err(left));
-    let mut to = Vec::new(alloc);
-    assert_eq!(rt; write_err(alloc, 0x8055_0000, &mut to), Ok(()));
-    let err = bytes_of(&rt, alloc, "455252461000000000005580ffffffff")?;
-    assert_eq!(rt; to.as_slice(), err.as_slice());
-    let rows = [
-        ("00005580ffffffff", Ok(0x8055_0000)),
-        ("0000558002000000", Err(ValueFault::Short)),
-        ("00005580020000006e6f", Ok(0x8055_0000)),
-        (
-            "00005580ffffffff00",
-            Err(ValueFault::Bad {
-                place: 8,
-                code: DECODING,
-            }),
-        ),
-        ("000055", Err(ValueFault::Short)),
-    ];
-    for (body, want) in rows {
-        assert_eq!(rt; read_err(alloc, &bytes_of(&rt, alloc, body)?), want);
-    }
-    Ok(())
+    ack_is(&rt, alloc, &ack, &greeting)?;
+    err_is(&rt, alloc)
 }
 
 /// An OPN as an independent encoder wrote it.
@@ -541,26 +627,8 @@ const OPN: &str = "4f504e4684000000000000002f000000687474703a2f2f6f7063666f756e6
                    0000000000ffffffff00000000000000000000000000000001000000ffffffff\
                    80ee3600";
 
-#[test]
-fn reads_and_puts_an_opn(rt: HostRuntime) -> Result<(), Fail> {
-    let alloc = rt.alloc();
-    let frame = bytes_of(&rt, alloc, OPN)?;
-    let Some((_, body)) = frame.split_at_checked(8) else {
-        panic!(rt; "no header");
-    };
-    let policy = b"http://opcfoundation.org/UA/SecurityPolicy#None".as_slice();
-    assert_eq!(rt; read_policy(alloc, body)?.bytes(), Some(policy));
-    let chunk = read_opn(alloc, body)?;
-    assert_eq!(rt; (chunk.channel, chunk.number, chunk.request), (0, 1, 1));
-    assert_eq!(rt; chunk.policy.bytes(), Some(policy));
-    assert_eq!(rt; chunk.body.len(), 53);
-    let mut sender = Sender::new(0, 0, 8192, 0, 0);
-    let mut to = Vec::new(alloc);
-    assert_eq!(rt;
-        sender.put(alloc, Kind::Opn, 1, chunk.body.bytes(), &mut to),
-        Ok(())
-    );
-    assert_eq!(rt; to.as_slice(), frame.as_slice());
+/// What an OPN's body is cut off at.
+fn opn_ends(rt: &impl Abort, alloc: Global, body: &[u8]) {
     for count in 0..body.len() {
         let front = body.split_at(count).0;
         let short = Some(ValueFault::Short);
@@ -569,6 +637,37 @@ fn reads_and_puts_an_opn(rt: HostRuntime) -> Result<(), Fail> {
         let want = if count < 71 { short } else { None };
         assert_eq!(rt; read_opn(alloc, front).err(), want, "{count}");
     }
+}
+
+/// An OPN is read, and put as it stands.
+fn opn_is(rt: &impl Abort, alloc: Global, frame: &[u8], policy: &[u8]) -> Result<(), Fail> {
+    let chunk = read_opn(alloc, body_of(rt, frame))?;
+    assert_eq!(rt; (chunk.channel, chunk.number, chunk.request), (0, 1, 1));
+    assert_eq!(rt; chunk.policy.bytes(), Some(policy));
+    if chunk.body.len() != 53 {
+        panic!(rt; "another body");
+    }
+    let mut sender = Sender::new(0, 0, 8192, 0, 0);
+    let mut to = Vec::new(alloc);
+    assert_eq!(rt;
+        sender.put(alloc, Kind::Opn, 1, chunk.body.bytes(), &mut to),
+        Ok(())
+    );
+    assert_eq!(rt; to.as_slice(), frame);
+    Ok(())
+}
+
+#[test]
+fn reads_and_puts_an_opn(rt: HostRuntime) -> Result<(), Fail> {
+    let alloc = rt.alloc();
+    let frame = bytes_of(&rt, alloc, OPN)?;
+    let policy = b"http://opcfoundation.org/UA/SecurityPolicy#None".as_slice();
+    assert_eq!(rt;
+        read_policy(alloc, body_of(&rt, &frame))?.bytes(),
+        Some(policy)
+    );
+    opn_is(&rt, alloc, &frame, policy)?;
+    opn_ends(&rt, alloc, body_of(&rt, &frame));
     let long = bytes_of(&rt, alloc, "0000000001001000")?;
     let fault = ValueFault::Bad {
         place: 4,
