@@ -1,4 +1,3 @@
-use crate::tests::bytes_of;
 use crate::{
     Assembler, Body, Chunk, Frame, FrameFault, Framer, Greeting, Kind, Message, PutFault, Sender,
     read_ack, read_err, read_hello, read_opn, read_policy, write_ack, write_err, write_hello,
@@ -454,11 +453,7 @@ fn puts_the_largest_message(rt: HostRuntime) -> Result<(), Fail> {
     let mut next = Vec::new(alloc);
     sender.renew(6, 7);
     assert_eq!(rt; sender.put(alloc, Kind::Clo, 8, b"x", &mut next), Ok(()));
-    let want = bytes_of(
-        &rt,
-        alloc,
-        "434c4f461900000006000000070000001200000008000000",
-    )?;
+    let want = hex::decode(alloc, "434c4f461900000006000000070000001200000008000000")?;
     assert_eq!(rt; next.get(..24), Some(want.as_slice()));
     Ok(())
 }
@@ -517,19 +512,11 @@ fn hello_ends(rt: &impl Abort, alloc: Global, body: &[u8]) -> Result<(), Fail> {
 
 /// A URL may be null, and not too long.
 fn hello_keeps_text(rt: &impl Abort, alloc: Global) -> Result<(), Fail> {
-    let null = bytes_of(
-        rt,
-        alloc,
-        "0100000002000000030000000400000005000000feffffff",
-    )?;
+    let null = hex::decode(alloc, "0100000002000000030000000400000005000000feffffff")?;
     let (greeting, url) = read_hello(alloc, &null)?;
     assert_eq!(rt; greeting.send, 3);
     assert!(rt; url.is_null());
-    let long = bytes_of(
-        rt,
-        alloc,
-        "010000000200000003000000040000000500000001001000",
-    )?;
+    let long = hex::decode(alloc, "010000000200000003000000040000000500000001001000")?;
     let fault = ValueFault::Bad {
         place: 20,
         code: 0x8008_0000,
@@ -548,7 +535,7 @@ fn reads_and_writes_greetings(rt: HostRuntime) -> Result<(), Fail> {
         max_message: 0,
         max_chunks: 0,
     };
-    let hello = bytes_of(&rt, alloc, HELLO)?;
+    let hello = hex::decode(alloc, HELLO)?;
     hello_is(&rt, alloc, &hello, &want, b"opc.tcp://a:4840")?;
     hello_ends(&rt, alloc, body_of(&rt, &hello))?;
     hello_keeps_text(&rt, alloc)
@@ -582,7 +569,7 @@ fn ack_is(rt: &impl Abort, alloc: Global, ack: &[u8], greeting: &Greeting) -> Re
 fn err_is(rt: &impl Abort, alloc: Global) -> Result<(), Fail> {
     let mut to = Vec::new(alloc);
     assert_eq!(rt; write_err(alloc, 0x8055_0000, &mut to), Ok(()));
-    let err = bytes_of(rt, alloc, "455252461000000000005580ffffffff")?;
+    let err = hex::decode(alloc, "455252461000000000005580ffffffff")?;
     assert_eq!(rt; to.as_slice(), err.as_slice());
     let left = ValueFault::Bad {
         place: 8,
@@ -596,7 +583,7 @@ fn err_is(rt: &impl Abort, alloc: Global) -> Result<(), Fail> {
         ("000055", Err(ValueFault::Short)),
     ];
     for (body, want) in rows {
-        assert_eq!(rt; read_err(alloc, &bytes_of(rt, alloc, body)?), want);
+        assert_eq!(rt; read_err(alloc, &hex::decode(alloc, body)?), want);
     }
     Ok(())
 }
@@ -604,8 +591,7 @@ fn err_is(rt: &impl Abort, alloc: Global) -> Result<(), Fail> {
 #[test]
 fn reads_and_writes_ack_and_err(rt: HostRuntime) -> Result<(), Fail> {
     let alloc = rt.alloc();
-    let ack = bytes_of(
-        &rt,
+    let ack = hex::decode(
         alloc,
         "41434b461c0000000000000000000100000001000000100040000000",
     )?;
@@ -660,7 +646,7 @@ fn opn_is(rt: &impl Abort, alloc: Global, frame: &[u8], policy: &[u8]) -> Result
 #[test]
 fn reads_and_puts_an_opn(rt: HostRuntime) -> Result<(), Fail> {
     let alloc = rt.alloc();
-    let frame = bytes_of(&rt, alloc, OPN)?;
+    let frame = hex::decode(alloc, OPN)?;
     let policy = b"http://opcfoundation.org/UA/SecurityPolicy#None".as_slice();
     assert_eq!(rt;
         read_policy(alloc, body_of(&rt, &frame))?.bytes(),
@@ -668,7 +654,7 @@ fn reads_and_puts_an_opn(rt: HostRuntime) -> Result<(), Fail> {
     );
     opn_is(&rt, alloc, &frame, policy)?;
     opn_ends(&rt, alloc, body_of(&rt, &frame));
-    let long = bytes_of(&rt, alloc, "0000000001001000")?;
+    let long = hex::decode(alloc, "0000000001001000")?;
     let fault = ValueFault::Bad {
         place: 4,
         code: 0x8008_0000,

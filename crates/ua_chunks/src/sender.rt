@@ -6,12 +6,12 @@ ghost use Rattle.ua_chunks.specs.Sending.{MayPut, Puts, Sending, after_parts, af
 
 use crate::frame::{Chunk, Kind, MOST_FRAME};
 use crate::message::{MOST_CHUNKS, MOST_MESSAGE};
-use crate::writing::{append, put_frame, put_start};
+use crate::writing::{put_frame, put_start};
 use std::alloc::Global;
 use std::marker::Model;
 use thiserror::Error;
 use ua_base::{OutOfMemory, next_chunk};
-use ua_values::write_uint32;
+use ua_values::{append, write_uint32};
 
 /// How many bytes of a frame are not a message's: the frame's header and the chunk's.
 const HEADERS: u32 = 24;

@@ -1,5 +1,3 @@
-ghost use Rattle.std.specs.Prelude.{◌<◌};
-
 use crate::{Chunk, Frame, FrameFault, Framer, Kind};
 use std::alloc::Global;
 use std::process::Abort;
@@ -76,26 +74,6 @@ const ROWS: &[Row] = &[
     ),
 ];
 
-fn digit(rt: &impl Abort, byte: u8) -> u8
-    ensures { result < 16 }
-{
-    match byte {
-        b'0'..=b'9' => byte - b'0',
-        b'a'..=b'f' => byte - b'a' + 10,
-        _ => panic!(rt; "no hexadecimal digit"),
-    }
-}
-
-pub(crate) fn bytes_of(rt: &impl Abort, alloc: Global, text: &str) -> Result<Vec<u8>, Fail> {
-    let mut bytes = Vec::new(alloc);
-    for pair in text.as_bytes().chunks(2) {
-        if let [high, low] = pair {
-            bytes.push(digit(rt, *high) * 16 + digit(rt, *low))?;
-        }
-    }
-    Ok(bytes)
-}
-
 /// The frames as `show stream` has them, a slash behind each.
 fn text_of(alloc: Global, frames: &[Frame]) -> Result<String, Fail> {
     let mut text = String::new(alloc);
@@ -141,7 +119,7 @@ fn feeds(rt: &impl Abort, alloc: Global, row: &Row, pieces: &[&[u8]]) -> Result<
 fn finds_frames_however_cut(rt: HostRuntime) -> Result<(), Fail> {
     let alloc = rt.alloc();
     for row in ROWS {
-        let bytes = bytes_of(&rt, alloc, row.0)?;
+        let bytes = hex::decode(alloc, row.0)?;
         feeds(&rt, alloc, row, &[&bytes])?;
         let mut single = Vec::new(alloc);
         for byte in bytes.chunks(1) {

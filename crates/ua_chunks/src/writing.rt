@@ -6,7 +6,7 @@ ghost use Rattle.ua_chunks.specs.declared.frame.Chunk.TheVariants as chunk;
 use crate::frame::{Chunk, HEADER, Kind};
 use std::alloc::Global;
 use ua_base::OutOfMemory;
-use ua_values::write_uint32;
+use ua_values::{append, write_uint32};
 
 impl Kind {
     /// The three letters.
@@ -65,15 +65,6 @@ pub(crate) fn put_frame(
 {
     put_start(kind, chunk, body.len(), to)?;
     to.extend_from_slice(body)?;
-    Ok(())
-}
-
-/// Appends bytes that were built apart, so that want of memory left the list as it was.
-pub(crate) fn append(built: &[u8], to: &mut Vec<u8>) -> Result<(), OutOfMemory>
-    ensures ok { OnOk result (to.new.items ≡ to.old.items ++ built.now) }
-    ensures unchanged { OnErr result (to.new.items ≡ to.old.items) }
-{
-    to.extend_from_slice(built)?;
     Ok(())
 }
 

@@ -26,7 +26,7 @@ pub use laws::{
     texts_are_lawful,
 };
 pub use names::{LocalizedText, QualifiedName};
-pub use node::{ExpandedNodeId, NodeId};
+pub use node::{ExpandedNodeId, NodeId, has_bit};
 pub use reading::{
     read_boolean, read_byte, read_byte_string, read_date_time, read_double, read_expanded_node_id,
     read_extension_object, read_float, read_guid, read_int16, read_int32, read_int64,
@@ -35,7 +35,7 @@ pub use reading::{
 };
 pub use run::{UaBytes, UaText};
 pub use writing::{
-    put_expanded_node_id, put_extension_object, put_localized_text, put_node_id,
+    append, put_expanded_node_id, put_extension_object, put_localized_text, put_node_id,
     put_qualified_name, write_boolean, write_byte, write_byte_string, write_date_time,
     write_double, write_expanded_node_id, write_extension_object, write_float, write_guid,
     write_int16, write_int32, write_int64, write_localized_text, write_node_id,

@@ -139,8 +139,8 @@ impl Form {
     }
 }
 
-/// Whether a byte has the bit that is worth `worth`.
-pub(crate) fn has_bit(worth: u8, byte: u8) -> bool
+/// Whether a byte, as a mask is one, has the bit that is worth `worth`.
+pub fn has_bit(worth: u8, byte: u8) -> bool
     requires { 0 < worth }
     ensures { result ≡ has_bit worth byte }
 {

@@ -1,5 +1,3 @@
-ghost use Rattle.std.specs.Prelude.{◌<◌};
-
 use crate::*;
 use std::alloc::Global;
 use std::process::Abort;
@@ -163,35 +161,15 @@ fn reads_and_writes(
     read: &str,
     written: &str,
 ) -> Result<(), Fail> {
-    let mut bytes = bytes_of(rt, alloc, read)?;
+    let mut bytes = hex::decode(alloc, read)?;
     let size = bytes.len();
     bytes.push(0xAA)?;
-    let mut to = bytes_of(rt, alloc, "55")?;
+    let mut to = hex::decode(alloc, "55")?;
     assert_eq!(rt; copy(alloc, kind, &bytes, &mut to)?, size);
-    let mut want = bytes_of(rt, alloc, "55")?;
-    want.extend_from_slice(&bytes_of(rt, alloc, written)?)?;
+    let mut want = hex::decode(alloc, "55")?;
+    want.extend_from_slice(&hex::decode(alloc, written)?)?;
     assert_eq!(rt; to.as_slice(), want.as_slice());
     Ok(())
-}
-
-fn digit(rt: &impl Abort, byte: u8) -> u8
-    ensures { result < 16 }
-{
-    match byte {
-        b'0'..=b'9' => byte - b'0',
-        b'a'..=b'f' => byte - b'a' + 10,
-        _ => panic!(rt; "no hexadecimal digit"),
-    }
-}
-
-fn bytes_of(rt: &impl Abort, alloc: Global, text: &str) -> Result<Vec<u8>, Fail> {
-    let mut bytes = Vec::new(alloc);
-    for pair in text.as_bytes().chunks(2) {
-        if let [high, low] = pair {
-            bytes.push(digit(rt, *high) * 16 + digit(rt, *low))?;
-        }
-    }
-    Ok(bytes)
 }
 
 /// Values as an independent encoder wrote them.
@@ -355,10 +333,10 @@ fn fault(alloc: Global, kind: Type, bytes: &[u8]) -> Option<ValueFault> {
 #[test]
 fn faults_are_told_at_their_places(rt: HostRuntime) -> Result<(), Fail> {
     for (kind, text, want) in FAULTS {
-        let bytes = bytes_of(&rt, rt.alloc(), text)?;
+        let bytes = hex::decode(rt.alloc(), text)?;
         assert_eq!(rt; fault(rt.alloc(), kind, &bytes), Some(want));
     }
-    let long = bytes_of(&rt, rt.alloc(), "c30300020000007178030000007572785a000000")?;
+    let long = hex::decode(rt.alloc(), "c30300020000007178030000007572785a000000")?;
     for size in 0..long.len() {
         assert_eq!(rt;
             fault(rt.alloc(), Type::ExpandedNodeId, &long[..size]),
@@ -371,7 +349,7 @@ fn faults_are_told_at_their_places(rt: HostRuntime) -> Result<(), Fail> {
 
 #[test]
 fn arrays_are_read_and_written(rt: HostRuntime) -> Result<(), Fail> {
-    let bytes = bytes_of(&rt, rt.alloc(), "030000000100000061ffffffff00000000")?;
+    let bytes = hex::decode(rt.alloc(), "030000000100000061ffffffff00000000")?;
     let mut from = Cursor::new(&bytes);
     let texts: Vec<UaText> = read_array(rt.alloc(), &mut from)?;
     assert_eq!(rt; from.place(), bytes.len());
@@ -379,7 +357,7 @@ fn arrays_are_read_and_written(rt: HostRuntime) -> Result<(), Fail> {
     let mut to = Vec::new(rt.alloc());
     put_array(&texts, &mut to)?;
     assert_eq!(rt; to.as_slice(), bytes.as_slice());
-    let many = bytes_of(&rt, rt.alloc(), "01000100")?;
+    let many = hex::decode(rt.alloc(), "01000100")?;
     let fault = read_array::<UaText>(rt.alloc(), &mut Cursor::new(&many)).err();
     assert_eq!(rt;
         fault,
@@ -388,10 +366,10 @@ fn arrays_are_read_and_written(rt: HostRuntime) -> Result<(), Fail> {
             code: 0x8008_0000
         })
     );
-    let none = bytes_of(&rt, rt.alloc(), "00000080")?;
+    let none = hex::decode(rt.alloc(), "00000080")?;
     let empty: Vec<UaText> = read_array(rt.alloc(), &mut Cursor::new(&none))?;
     assert_eq!(rt; empty.len(), 0);
-    let three = bytes_of(&rt, rt.alloc(), "03000000010203")?;
+    let three = hex::decode(rt.alloc(), "03000000010203")?;
     let numbers: Vec<u8> = read_array_within(rt.alloc(), 3, &mut Cursor::new(&three))?;
     assert_eq!(rt; numbers.as_slice(), [1u8, 2, 3].as_slice());
     let fault = read_array_within::<u8>(rt.alloc(), 2, &mut Cursor::new(&three)).err();
@@ -415,7 +393,7 @@ fn copies_are_equal(rt: HostRuntime) -> Result<(), Fail> {
         "050200ffffffff0100000000",
     ];
     for text in objects {
-        let bytes = bytes_of(&rt, rt.alloc(), text)?;
+        let bytes = hex::decode(rt.alloc(), text)?;
         let (object, _) = read_extension_object(rt.alloc(), &bytes)?;
         let mut to = Vec::new(rt.alloc());
         write_extension_object(&object.copy(rt.alloc())?, &mut to)?;

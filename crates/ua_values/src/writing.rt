@@ -177,12 +177,12 @@ pub fn write_byte_string(value: &UaBytes, to: &mut Vec<u8>) -> Result<(), OutOfM
     write_counted(value.bytes(), to)
 }
 
-/// Appends bytes that were built apart, so that want of memory left the list as it was.
-fn append(built: Vec<u8>, to: &mut Vec<u8>) -> Result<(), OutOfMemory>
-    ensures ok { OnOk result (to.new.items ≡ to.old.items ++ built.items) }
+/// Appends bytes that were built apart, so that want of memory leaves the list as it was.
+pub fn append(built: &[u8], to: &mut Vec<u8>) -> Result<(), OutOfMemory>
+    ensures ok { OnOk result (to.new.items ≡ to.old.items ++ built.now) }
     ensures unchanged { OnErr result (to.new.items ≡ to.old.items) }
 {
-    to.extend_from_slice(&built)?;
+    to.extend_from_slice(built)?;
     Ok(())
 }
 
@@ -240,7 +240,7 @@ pub fn write_node_id(value: &NodeId, to: &mut Vec<u8>) -> Result<(), OutOfMemory
 {
     let mut built = Vec::new(*to.allocator());
     put_node_id(value, &mut built)?;
-    append(built, to)
+    append(&built, to)
 }
 
 /// A text, where it is not null.
@@ -304,7 +304,7 @@ pub fn write_expanded_node_id(value: &ExpandedNodeId, to: &mut Vec<u8>) -> Resul
 {
     let mut built = Vec::new(*to.allocator());
     put_expanded_node_id(value, &mut built)?;
-    append(built, to)
+    append(&built, to)
 }
 
 /// Appends a QualifiedName as `write_qualified_name` does, but for want of memory, which leaves what was appended by then:
@@ -323,7 +323,7 @@ pub fn write_qualified_name(value: &QualifiedName, to: &mut Vec<u8>) -> Result<(
 {
     let mut built = Vec::new(*to.allocator());
     put_qualified_name(value, &mut built)?;
-    append(built, to)
+    append(&built, to)
 }
 
 /// Appends a LocalizedText as `write_localized_text` does, but for want of memory, which leaves what was appended by then:
@@ -343,7 +343,7 @@ pub fn write_localized_text(value: &LocalizedText, to: &mut Vec<u8>) -> Result<(
 {
     let mut built = Vec::new(*to.allocator());
     put_localized_text(value, &mut built)?;
-    append(built, to)
+    append(&built, to)
 }
 
 /// The body of an ExtensionObject, behind the byte that says how it stands.
@@ -379,5 +379,5 @@ pub fn write_extension_object(value: &ExtensionObject, to: &mut Vec<u8>) -> Resu
 {
     let mut built = Vec::new(*to.allocator());
     put_extension_object(value, &mut built)?;
-    append(built, to)
+    append(&built, to)
 }

@@ -1,5 +1,5 @@
 -- Each type's reader reads its grammar.
-use Rattle.std.proofs.Common.{◌≡◌, ℕ, zero, suc, ◌+◌, ◌*◌, ◌^◌, ◌<◌, ◌≤◌, Bool, true, false, ◌&&◌, cond, eqb, ltb, List, [], ◌∷◌, ◌++◌, length, Option, Some, None, Result, Ok, Err, refl, sym, ap, subst, ◌∙◌, arith, inl, inr}
+use Rattle.std.proofs.Common.{◌≡◌, ℕ, zero, suc, ◌+◌, ◌*◌, ◌^◌, ◌<◌, Bool, true, false, ◌&&◌, cond, eqb, ltb, List, [], ◌∷◌, length, Option, Some, None, Result, Ok, Err, refl, sym, ap, subst, ◌∙◌, arith, inl, inr}
 use Rattle.std.specs.Int.{w8, w16, w32, w64}
 use Rattle.std.specs.List.{AllByRecursion}
 use Rattle.std.proofs.lemmas.Bool.{eqb-true}
@@ -7,7 +7,7 @@ use Rattle.std.proofs.lemmas.Bool.Decides.{nat_tests}
 use Rattle.std.proofs.lemmas.List.{length-append}
 use Rattle.ua_values.specs.declared.fault.TheConstants.{MOST_ITEMS}
 use Rattle.ua_values.specs.Reading.{Reader, ◌>>=◌, give, any, field_at, number_at}
-use Rattle.ua_values.specs.Parts.{number, optional, ◌followed_by◌, Chained, text, elements, array_within, array, Begun, ChainCut, optional_cut, array_cut, IsRefused}
+use Rattle.ua_values.specs.Parts.{number, optional, Chained, text, elements, array_within, array, Begun, ChainCut, optional_cut, array_cut}
 use Rattle.ua_values.specs.Codec.{Reads, IsCodec}
 use Rattle.ua_values.specs.Readers.{boolean_at, signed_at, guid_at, text_at, node_at, has_bit, expanded_at, qualified_at, localized_at, extension_at, array_within_at, array_at, optional_at}
 use Rattle.ua_values.specs.Types.{boolean, signed, guid, node_id, expanded_node_id, qualified_name, localized_text, extension_object}
@@ -26,14 +26,13 @@ use Rattle.ua_variants.specs.declared.variant.Variant.{Variant}
 use Rattle.ua_variants.specs.declared.variant.Variant.TheVariants as variant
 use Rattle.ua_variants.specs.declared.variant.Stamped.{Stamped}
 use Rattle.ua_variants.specs.declared.variant.Stamps.{Stamps}
-use Rattle.ua_variants.specs.declared.variant.DiagnosticInfo.{DiagnosticInfo}
 use Rattle.ua_variants.specs.declared.diagnostic.Details.{Details}
 use Rattle.ua_variants.specs.declared.head.Kind.TheVariants as kind
 use Rattle.ua_variants.specs.declared.head.Head.{Head}
 use Rattle.ua_variants.specs.declared.head.Head.TheVariants as head
 use Rattle.ua_variants.specs.Kinds.{head_number, head_of}
 use Rattle.ua_variants.specs.Grammar.{made, made_of, scalar_spells, array_spells, count_of_array, product, dimensions, shape, shape_cut, shaped, shaped_cut, details, diagnostic_info, diagnostic_cut, stamps, with_stamps, data_value_by, data_value_cut_by, body, body_cut, variant_spells, data_value, variant_cut, data_value_cut}
-use Rattle.ua_variants.specs.Reader.{making, scalar_at, flat_array_at, none_negative, judged_sizes, dimensions_at, shape_at, shaped_at, details_at, diagnostic_by_at, diagnostic_at, stamps_at, data_value_by_at, body_at, variant_by_at, variant_at, data_value_at}
+use Rattle.ua_variants.specs.Reader.{making, scalar_at, flat_array_at, none_negative, judged_sizes, dimensions_at, shape_at, shaped_at, details_at, diagnostic_at, stamps_at, data_value_by_at, body_at, variant_at, data_value_at}
 use Rattle.ua_variants.proofs.Heads.{head_reads}
 
 -- ---- types whose values hold no others

@@ -1,8 +1,8 @@
 -- One level of values that hold others.
-use Rattle.std.proofs.Common.{◌≡◌, ℕ, zero, suc, ◌-◌, ◌+◌, ◌<◌, Result, Err, refl, sym, ap, ap₂, subst, ◌∙◌, arith}
+use Rattle.std.proofs.Common.{◌≡◌, ℕ, suc, ◌-◌, ◌<◌, Result, Err, sym, ap, subst, ◌∙◌, arith}
 use Rattle.ua_values.specs.declared.fault.ValueFault.{ValueFault}
 use Rattle.ua_values.specs.declared.fault.ValueFault.TheVariants as faults
-use Rattle.ua_values.specs.Reading.{Input, Reader, Fault, Bad, Fails}
+use Rattle.ua_values.specs.Reading.{Input, Fault, Bad, Fails}
 use Rattle.ua_variants.specs.Reader.{diagnostic_by_at, diagnostic_at, variant_by_at, variant_at, data_value_by_at, data_value_at}
 
 -- what is refused for its depth

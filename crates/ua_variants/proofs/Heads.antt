@@ -1,19 +1,19 @@
 -- The first byte of a Variant.
-use Rattle.std.proofs.Common.{◌≡◌, ℕ, ◌+◌, ◌*◌, ◌/◌, ◌%◌, ◌≤◌, ◌<◌, Bool, true, false, eqb, cond, List, length, Result, Ok, Err, refl, sym, ap, subst, ◌∙◌, arith, inl, inr}
+use Rattle.std.proofs.Common.{◌≡◌, ℕ, ◌+◌, ◌*◌, ◌/◌, ◌%◌, ◌<◌, Bool, true, false, eqb, cond, length, Result, Ok, Err, refl, sym, ap, subst, ◌∙◌, arith, inl}
 use Rattle.std.proofs.lemmas.Bool.{eqb-true}
 use Rattle.std.proofs.lemmas.Bool.Decides.{nat_tests}
 use Rattle.ua_values.specs.Reading.{field_at}
 use Rattle.ua_values.specs.Parts.{number, IsRefused}
 use Rattle.ua_values.specs.Codec.{Reads}
 use Rattle.ua_values.proofs.Chain.{reads_as}
-use Rattle.ua_values.proofs.Leaves.{field, IsField, field_reads}
+use Rattle.ua_values.proofs.Leaves.{field, field_reads}
 use Rattle.ua_values.proofs.TypeCodecs.{tested, refused, failed_not, err_is, fine_is, cut_byte}
 use Rattle.ua_variants.specs.declared.variant.Flat.TheVariants as flat
 use Rattle.ua_variants.specs.declared.head.Kind.{Kind}
 use Rattle.ua_variants.specs.declared.head.Kind.TheVariants as kind
 use Rattle.ua_variants.specs.declared.head.Head.{Head}
 use Rattle.ua_variants.specs.declared.head.Head.TheVariants as head
-use Rattle.ua_variants.specs.Kinds.{flat_number, kind_number, head_number, kind_of, with_kind, head_of}
+use Rattle.ua_variants.specs.Kinds.{kind_number, head_number, kind_of, with_kind, head_of}
 
 kind_is : (n : ℕ) (k : Kind) → kind_of n ≡ Ok k → n ≡ kind_number k
 kind_is n k =

@@ -1,5 +1,5 @@
 -- What is written of each kind of Variant.
-use Rattle.std.proofs.Common.{◌≡◌, ℕ, ℤ, ◌%◌, ◌^◌, List, [], ◌∷◌, ◌++◌, length, map, replicate, Option, Some, None, refl, sym, ap, ap₂, ◌∙◌}
+use Rattle.std.proofs.Common.{◌≡◌, ℕ, ℤ, ◌%◌, ◌^◌, List, [], ◌∷◌, ◌++◌, map, replicate, Option, Some, None, refl, sym, ap, ap₂, ◌∙◌}
 use Rattle.std.specs.List.{flat_map}
 use Rattle.std.proofs.lemmas.List.{length-map}
 use Rattle.std.proofs.lemmas.List.Concat.{flat_map-cons}
@@ -17,7 +17,7 @@ use Rattle.ua_variants.specs.declared.variant.Stamped.{Stamped}
 use Rattle.ua_variants.specs.declared.head.Kind.TheVariants as kind
 use Rattle.ua_variants.specs.declared.head.Head.TheVariants as head
 use Rattle.ua_variants.specs.Kinds.{head_number}
-use Rattle.ua_variants.specs.Spelling.{flat_of, flat_of_array, written_scalar, written_flat_array, written_shape, written_head, joined, written_some, written_stamped, written_layer, written_variant, written_data_value}
+use Rattle.ua_variants.specs.Spelling.{flat_of, flat_of_array, written_scalar, written_flat_array, written_shape, written_head, joined, written_stamped, written_layer, written_variant, written_data_value}
 
 pub written_null : written_variant variant.Null ≡ little_bytes 1 0
 unfolding written_variant

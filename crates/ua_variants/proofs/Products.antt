@@ -1,5 +1,5 @@
 -- Products that are capped.
-use Rattle.std.proofs.Common.{◌≡◌, ℕ, zero, suc, ◌+◌, ◌-◌, ◌*◌, ◌^◌, ◌≤◌, ◌<◌, min, List, [], ◌∷◌, length, drop, refl, sym, ap, ◌∙◌, arith, inl, inr}
+use Rattle.std.proofs.Common.{◌≡◌, ℕ, zero, suc, ◌*◌, ◌≤◌, min, List, [], ◌∷◌, sym, ap, ◌∙◌, arith, inl, inr}
 use Rattle.std.proofs.Math.Nat.{min-eq_left, min-eq_right, le-mul_of_pos_right, mul_assoc, mul-zero}
 use Rattle.std.proofs.lemmas.Bool.{cases_lt}
 use Rattle.ua_variants.specs.Grammar.{product}

@@ -1,20 +1,19 @@
 -- Written spellings are spellings.
-use Rattle.std.proofs.Common.{◌≡◌, ℕ, ℤ, zero, suc, ◌+◌, ◌%◌, ◌^◌, ◌≤◌, ◌<◌, Bool, true, false, List, [], ◌∷◌, ◌++◌, length, replicate, Option, Some, None, FitsSigned, IfSome, refl, sym, ap, ap₂, subst, ◌∙◌, append_assoc, arith}
+use Rattle.std.proofs.Common.{◌≡◌, ℕ, ℤ, zero, suc, ◌+◌, ◌%◌, ◌^◌, ◌≤◌, ◌<◌, Bool, true, false, List, [], ◌++◌, length, replicate, Option, Some, None, FitsSigned, IfSome, refl, sym, ap, ap₂, subst, ◌∙◌, append_assoc, arith}
 use Rattle.std.specs.Int.{w8, w16, w32, w64}
 use Rattle.std.specs.List.{flat_map, AllByRecursion}
 use Rattle.std.specs.Option.{is_some}
-use Rattle.std.proofs.lemmas.List.{append-nil, length-replicate}
+use Rattle.std.proofs.lemmas.List.{length-replicate}
 use Rattle.std.proofs.lemmas.List.Concat.{flat_map-cons}
 use Rattle.byteorder.specs.Endian.{little_bytes}
 use Rattle.ua_values.specs.declared.fault.TheConstants.{MOST_ITEMS}
-use Rattle.ua_values.specs.Parts.{number, optional, ◌followed_by◌, Chained, text, array_within, array}
+use Rattle.ua_values.specs.Parts.{number, optional, Chained, text, array}
 use Rattle.ua_values.specs.Readers.{has_bit}
 use Rattle.ua_values.specs.Types.{boolean, signed, guid, node_id, expanded_node_id, qualified_name, localized_text, extension_object}
 use Rattle.ua_values.specs.Written.{written_boolean, written_signed, written_guid, written_text, written_array, written_node, flag, written_expanded, written_qualified, written_localized, written_extension}
-use Rattle.ua_values.specs.Laws.{KeepsText, KeepsGuid, KeepsNode, KeepsExpanded, KeepsQualified, KeepsLocalized, KeepsExtension, KeepsArray}
+use Rattle.ua_values.specs.Laws.{KeepsText, KeepsGuid, KeepsNode, KeepsExpanded, KeepsQualified, KeepsLocalized, KeepsExtension}
 use Rattle.ua_values.proofs.WrittenLemmas.{in_turn, number_spelled, number1, boolean_spelled, guid_spelled, signed_spelled, text_spelled, node_spelled, expanded_spelled, qualified_spelled, localized_spelled, extension_spelled, array_within_spelled, array_spelled}
 use Rattle.ua_variants.specs.declared.variant.TheConstants.{MOST_DIMENSIONS}
-use Rattle.ua_variants.specs.declared.variant.Flat.TheVariants as flat
 use Rattle.ua_variants.specs.declared.variant.Scalar.{Scalar}
 use Rattle.ua_variants.specs.declared.variant.Scalar.TheVariants as scalar
 use Rattle.ua_variants.specs.declared.variant.Array.{Array}
@@ -30,9 +29,9 @@ use Rattle.ua_variants.specs.declared.head.Kind.{Kind}
 use Rattle.ua_variants.specs.declared.head.Kind.TheVariants as kind
 use Rattle.ua_variants.specs.declared.head.Head.{Head}
 use Rattle.ua_variants.specs.declared.head.Head.TheVariants as head
-use Rattle.ua_variants.specs.Kinds.{kind_number, head_number}
-use Rattle.ua_variants.specs.Grammar.{made, made_of, scalar_spells, array_spells, count_of_array, product, dimensions, shape, shaped, details, diagnostic_info, stamps, with_stamps, data_value_by, body, variant_spells, data_value}
-use Rattle.ua_variants.specs.Spelling.{flat_of, flat_of_array, written_scalar, written_flat_array, written_shape, written_head, written_some, mask_of, written_stamps, written_stamped, written_variant, written_data_value}
+use Rattle.ua_variants.specs.Kinds.{head_number}
+use Rattle.ua_variants.specs.Grammar.{made, scalar_spells, array_spells, count_of_array, shape, shaped, diagnostic_info, stamps, data_value_by, body, variant_spells, data_value}
+use Rattle.ua_variants.specs.Spelling.{flat_of, flat_of_array, written_scalar, written_flat_array, written_shape, written_head, written_some, mask_of, written_stamps, written_variant, written_data_value}
 use Rattle.ua_variants.specs.Keeps.{KeepsScalar, KeepsFlatArray, KeepsShape, KeepsStamps, KeepsStamped, KeepsLayer, KeepsVariant, KeepsDataValue}
 use Rattle.ua_variants.proofs.Heads.{kind_fits}
 use Rattle.ua_variants.proofs.Layers.{written_null, written_one, written_inner, written_inner_data, written_diagnostic, written_many, written_many_data, written_many_inner, written_diagnostics}

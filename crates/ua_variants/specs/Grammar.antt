@@ -1,6 +1,6 @@
 -- The grammar of values that hold others: which bytes are a spelling of a Variant, a DataValue or a DiagnosticInfo
 -- (OPC 10000-6, 5.2.2.12, 5.2.2.16 and 5.2.2.17). `room` is how many more of them may stand inside each other.
-use Rattle.std.specs.Prelude.{◌≡◌, ◌<◌, ◌*◌, ◌^◌, ℕ, zero, suc, List, [], ◌∷◌, length, Bool, true, false, Option, Some, None, ◌⊎◌}
+use Rattle.std.specs.Prelude.{◌≡◌, ◌<◌, ◌*◌, ◌^◌, ℕ, zero, suc, List, [], ◌∷◌, length, Bool, Option, Some, None}
 use Rattle.std.specs.List.{AllByRecursion}
 use Rattle.std.specs.Int.{w8, w16, w32, w64}
 use Rattle.ua_values.specs.declared.fault.TheConstants.{MOST_ITEMS}

@@ -1,5 +1,5 @@
 -- Which values keep the rules on lengths, dimensions and depth, and have numbers that their types hold.
-use Rattle.std.specs.Prelude.{◌≡◌, ◌<◌, ◌≤◌, ◌^◌, ℕ, ℤ, zero, suc, List, length, Option, FitsSigned, IfSome}
+use Rattle.std.specs.Prelude.{◌≡◌, ◌<◌, ◌≤◌, ◌^◌, ℕ, zero, suc, List, length, Option, FitsSigned, IfSome}
 use Rattle.std.specs.List.{AllByRecursion}
 use Rattle.std.specs.Int.{w8, w16, w32, w64}
 use Rattle.ua_values.specs.declared.fault.TheConstants.{MOST_ITEMS}

@@ -1,5 +1,5 @@
 -- The built-in types by their numbers, and the first byte of a Variant (OPC 10000-6, 5.1.2 and 5.2.2.16).
-use Rattle.std.specs.Prelude.{ℕ, ◌+◌, ◌/◌, ◌%◌, ◌==◌, Bool, true, false, Result, Ok, Err, if◌then◌else◌}
+use Rattle.std.specs.Prelude.{ℕ, ◌+◌, ◌/◌, ◌%◌, ◌==◌, true, false, Result, Ok, Err, if◌then◌else◌}
 use Rattle.ua_variants.specs.declared.variant.Flat.{Flat}
 use Rattle.ua_variants.specs.declared.variant.Flat.TheVariants as flat
 use Rattle.ua_variants.specs.declared.head.Kind.{Kind}

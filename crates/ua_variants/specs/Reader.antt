@@ -1,7 +1,6 @@
 -- A reader for each type, field by field.
 use Rattle.std.specs.Prelude.{◌==◌, ◌^◌, ◌&&◌, ℕ, zero, suc, nat_lt, List, [], ◌∷◌, length, Bool, true, Option, Some, None, Result, Ok, Err, if◌then◌else◌}
 use Rattle.std.specs.Int.{w8, w16, w32, w64}
-use Rattle.ua_values.specs.declared.fault.TheConstants.{MOST_ITEMS}
 use Rattle.ua_values.specs.Reading.{Reader, ◌>>=◌, give, field_at, number_at}
 use Rattle.ua_values.specs.Readers.{boolean_at, signed_at, guid_at, text_at, node_at, has_bit, expanded_at, qualified_at, localized_at, extension_at, array_within_at, array_at, optional_at, refused_at, checked_at}
 use Rattle.ua_variants.specs.declared.variant.TheConstants.{MOST_DIMENSIONS}

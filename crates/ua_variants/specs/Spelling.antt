@@ -1,6 +1,5 @@
 -- The spelling that is written, of a value's several ones. A length of a value that breaks the rules is written modulo 2 ^ 32.
-use Rattle.std.specs.Prelude.{ℕ, ◌+◌, ◌%◌, ◌^◌, List, [], ◌++◌, length, replicate, Bool, Option, Some, None}
-use Rattle.std.specs.List.{flat_map}
+use Rattle.std.specs.Prelude.{ℕ, ◌+◌, List, [], ◌++◌, replicate, Option, Some, None}
 use Rattle.std.specs.Option.{is_some}
 use Rattle.std.specs.Int.{w8, w16, w32, w64}
 use Rattle.byteorder.specs.Endian.{little_bytes}

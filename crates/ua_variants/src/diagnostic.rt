@@ -2,14 +2,14 @@
 
 ghost use Rattle.std.specs.Prelude.{◌≡◌, ◌<◌, None};
 ghost use Rattle.ua_values.specs.Reading.{Moves, number_at};
-ghost use Rattle.ua_values.specs.Readers.{has_bit, optional_at, text_at, array_at};
+ghost use Rattle.ua_values.specs.Readers.{optional_at, text_at, array_at};
 ghost use Rattle.ua_variants.specs.Reader.{details_at, diagnostic_by_at, diagnostic_at};
 ghost use Rattle.ua_values.specs.declared.fault.ValueFault.TheVariants as faults;
 
 use crate::variant::DiagnosticInfo;
 use std::alloc::Global;
 use ua_base::status::BAD_ENCODING_LIMITS_EXCEEDED;
-use ua_values::{Cursor, UaText, ValueFault};
+use ua_values::{Cursor, UaText, ValueFault, has_bit};
 
 /// A DiagnosticInfo's own fields, as they stand.
 #[derive(Debug, Drop)]
@@ -20,14 +20,6 @@ pub(crate) struct Details {
     pub localized_text: u32,
     pub additional_info: UaText,
     pub inner_status: u32,
-}
-
-/// Whether a mask has the bit that is worth `worth`.
-pub(crate) fn has_bit(worth: u8, mask: u8) -> bool
-    requires { 0 < worth }
-    ensures { result ≡ has_bit worth mask }
-{
-    mask / worth % 2 == 1
 }
 
 /// A value that stands inside too many others.

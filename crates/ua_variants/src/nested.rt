@@ -7,7 +7,7 @@ ghost use Rattle.ua_values.specs.Readers.{signed_at, optional_at, array_at, elem
 ghost use Rattle.ua_variants.specs.Kinds.{head_of};
 ghost use Rattle.ua_variants.specs.Reader.{making, diagnostic_at, variant_by_at, variant_at, stamps_at, data_value_by_at, data_value_at, body_at};
 
-use crate::diagnostic::{diagnostic, has_bit, too_deep};
+use crate::diagnostic::{diagnostic, too_deep};
 use crate::dimensions::shape;
 use crate::flat::{flat_array, scalar};
 use crate::head::{Head, Kind};
@@ -15,7 +15,7 @@ use crate::variant::{DataValue, DiagnosticInfo, MOST_DEPTH, Stamps, Variant};
 use sqlite_items::{Boxed, Items};
 use std::alloc::Global;
 use ua_base::status::BAD_DECODING_ERROR;
-use ua_values::{Cursor, MOST_ITEMS, ValueFault};
+use ua_values::{Cursor, MOST_ITEMS, ValueFault, has_bit};
 
 /// The first byte of a Variant.
 fn head(from: &mut Cursor<'_>) -> Result<Head, ValueFault>

@@ -14,7 +14,7 @@ use crate::variant::{DataValue, DiagnosticInfo, MOST_DEPTH, Variant};
 use crate::writing::{put_data_value, put_variant};
 use std::alloc::Global;
 use ua_base::OutOfMemory;
-use ua_values::{Cursor, Element, ValueFault, write_byte};
+use ua_values::{Cursor, Element, ValueFault, append, write_byte};
 
 /// Reads a Variant (OPC 10000-6, 5.2.2.16) at the front of the bytes: the value, and how many bytes it takes.
 pub fn read_variant(alloc: Global, bytes: &[u8]) -> Result<(Variant, usize), ValueFault>
@@ -49,15 +49,6 @@ pub fn read_diagnostic_info(
     from.sized(value)
 }
 
-/// Appends bytes that were built apart, so that want of memory left the list as it was.
-fn append(built: Vec<u8>, to: &mut Vec<u8>) -> Result<(), OutOfMemory>
-    ensures ok { OnOk result (to.new.items ≡ to.old.items ++ built.items) }
-    ensures unchanged { OnErr result (to.new.items ≡ to.old.items) }
-{
-    to.extend_from_slice(&built)?;
-    Ok(())
-}
-
 /// Appends a Variant (OPC 10000-6, 5.2.2.16).
 pub fn write_variant(value: &Variant, to: &mut Vec<u8>) -> Result<(), OutOfMemory>
     ensures ok { OnOk result (to.new.items ≡ to.old.items ++ written_variant value.now) }
@@ -65,7 +56,7 @@ pub fn write_variant(value: &Variant, to: &mut Vec<u8>) -> Result<(), OutOfMemor
 {
     let mut built = Vec::new(*to.allocator());
     put_variant(value, &mut built)?;
-    append(built, to)
+    append(&built, to)
 }
 
 /// Appends a DataValue (OPC 10000-6, 5.2.2.17).
@@ -75,7 +66,7 @@ pub fn write_data_value(value: &DataValue, to: &mut Vec<u8>) -> Result<(), OutOf
 {
     let mut built = Vec::new(*to.allocator());
     put_data_value(value, &mut built)?;
-    append(built, to)
+    append(&built, to)
 }
 
 /// Appends a DiagnosticInfo that says nothing.

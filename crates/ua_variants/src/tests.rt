@@ -1,31 +1,9 @@
-ghost use Rattle.std.specs.Prelude.{◌<◌};
-
 use crate::*;
 use std::alloc::Global;
 use std::process::Abort;
 use std::test::Fail;
 use ua_base::OutOfMemory;
 use ua_values::ValueFault;
-
-fn digit(rt: &impl Abort, byte: u8) -> u8
-    ensures { result < 16 }
-{
-    match byte {
-        b'0'..=b'9' => byte - b'0',
-        b'a'..=b'f' => byte - b'a' + 10,
-        _ => panic!(rt; "no hexadecimal digit"),
-    }
-}
-
-fn bytes_of(rt: &impl Abort, alloc: Global, text: &str) -> Result<Vec<u8>, Fail> {
-    let mut bytes = Vec::new(alloc);
-    for pair in text.as_bytes().chunks(2) {
-        if let [high, low] = pair {
-            bytes.push(digit(rt, *high) * 16 + digit(rt, *low))?;
-        }
-    }
-    Ok(bytes)
-}
 
 fn bytes_of_value(alloc: Global, value: &DataValue) -> Result<Vec<u8>, OutOfMemory> {
     let mut to = Vec::new(alloc);
@@ -178,16 +156,16 @@ fn digits(alloc: Global, text: &str) -> Result<String, Fail> {
 #[test]
 fn values_are_read_and_written(rt: HostRuntime) -> Result<(), Fail> {
     for text in WRITTEN {
-        let mut bytes = bytes_of(&rt, rt.alloc(), text)?;
-        let written = bytes_of(&rt, rt.alloc(), text)?;
+        let mut bytes = hex::decode(rt.alloc(), text)?;
+        let written = hex::decode(rt.alloc(), text)?;
         reads_and_writes(&rt, rt.alloc(), &bytes, written.len(), &written)?;
         // whatever follows
         bytes.push(0xff)?;
         reads_and_writes(&rt, rt.alloc(), &bytes, written.len(), &written)?;
     }
     for (text, again) in REWRITTEN {
-        let bytes = bytes_of(&rt, rt.alloc(), digits(rt.alloc(), text)?.as_str())?;
-        let written = bytes_of(&rt, rt.alloc(), digits(rt.alloc(), again)?.as_str())?;
+        let bytes = hex::decode(rt.alloc(), digits(rt.alloc(), text)?.as_str())?;
+        let written = hex::decode(rt.alloc(), digits(rt.alloc(), again)?.as_str())?;
         let size = if text == "c00a" { 1 } else { bytes.len() };
         reads_and_writes(&rt, rt.alloc(), &bytes, size, &written)?;
     }
@@ -268,7 +246,7 @@ fn fault(alloc: Global, bytes: &[u8]) -> Option<ValueFault> {
 #[test]
 fn faults_are_told_at_their_places(rt: HostRuntime) -> Result<(), Fail> {
     for (text, told) in FAULTY {
-        let bytes = bytes_of(&rt, rt.alloc(), digits(rt.alloc(), text)?.as_str())?;
+        let bytes = hex::decode(rt.alloc(), digits(rt.alloc(), text)?.as_str())?;
         let wanted = match told {
             None => ValueFault::Short,
             Some((place, code)) => ValueFault::Bad { place, code },
@@ -278,7 +256,7 @@ fn faults_are_told_at_their_places(rt: HostRuntime) -> Result<(), Fail> {
     // every proper front of a long value ends early
     let long =
         "3f980300000006010000000c010000007a170508010000000000000000005af64cf5d40103000000020000000000000003000400000000000000 0500";
-    let whole = bytes_of(&rt, rt.alloc(), digits(rt.alloc(), long)?.as_str())?;
+    let whole = hex::decode(rt.alloc(), digits(rt.alloc(), long)?.as_str())?;
     for size in 0..whole.len() {
         assert_eq!(rt; fault(rt.alloc(), &whole[..size]), Some(ValueFault::Short));
     }
@@ -356,7 +334,7 @@ fn diagnostics_are_limited(rt: HostRuntime) -> Result<(), Fail> {
 
 #[test]
 fn variants_are_read_alone(rt: HostRuntime) -> Result<(), Fail> {
-    let bytes = bytes_of(&rt, rt.alloc(), "0805000000000000000a")?;
+    let bytes = hex::decode(rt.alloc(), "0805000000000000000a")?;
     let (value, size) = read_variant(rt.alloc(), &bytes)?;
     assert_eq!(rt; size, 9);
     assert!(rt; matches!(value, Variant::Scalar(Scalar::Int64(5))));

@@ -1,4 +1,4 @@
-use Rattle.std.proofs.Common.{◌≡◌, ◌++◌, ◌∷◌, [], ◌<◌, sym, subst, arith}
+use Rattle.std.proofs.Common.{◌<◌, sym, subst, arith}
 use Rattle.ua_values.specs.Reading.{Moves, Reader}
 use Rattle.ua_variants.specs.declared.variant.DiagnosticInfo.{DiagnosticInfo}
 use Rattle.ua_variants.specs.Reader.{diagnostic_at}

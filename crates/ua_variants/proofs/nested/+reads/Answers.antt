@@ -1,4 +1,4 @@
-use Rattle.std.proofs.Common.{◌≡◌, ◌++◌, ◌∷◌, [], ◌<◌, sym, subst, arith}
+use Rattle.std.proofs.Common.{◌<◌, sym, subst, arith}
 use Rattle.ua_values.specs.Reading.{Moves, Reader}
 use Rattle.ua_values.specs.Readers.{elements_at}
 use Rattle.ua_values.proofs.ArrayLoop.{goes_on}
