@@ -1,0 +1,61 @@
+-- What reading a request's header says in the words of the grammar.
+use Rattle.std.proofs.Common.{◌≡◌, ℕ, ◌≤◌, List, length, take, Result, Ok, Err, refl, ap, subst, inl, inr, ◌⊎◌}
+use Rattle.ua_values.specs.declared.fault.ValueFault.{ValueFault}
+use Rattle.ua_values.specs.declared.fault.ValueFault.TheVariants as faults
+use Rattle.ua_values.specs.Reading.{Input, input, Fault, Short, Bad, Fails, sized}
+use Rattle.ua_values.specs.Parts.{Chained, Begun}
+use Rattle.ua_values.specs.Codec.{Reads}
+use Rattle.ua_values.specs.Answer.{EndsEarly, IsFault}
+use Rattle.ua_values.proofs.Chain.{reads_on, reads_as}
+use Rattle.ua_values.proofs.Answers.{is_read}
+use Rattle.ua_structures.specs.declared.body.BodyFault.{BodyFault}
+use Rattle.ua_structures.specs.declared.body.BodyFault.TheVariants as body
+use Rattle.ua_structures.specs.declared.header.RequestHeader.{RequestHeader}
+use Rattle.ua_structures.specs.Body.{type_id, type_at, body_fault, Answers}
+use Rattle.ua_structures.specs.Structures.{a_request_header}
+use Rattle.ua_structures.specs.Header.{is_head, head_cut, head_at, judged_head, header_at, IsHeaderRead}
+use Rattle.ua_structures.proofs.Bodies.{type_reads}
+
+pub head_reads : Reads is_head head_cut head_at
+head_reads =
+    reads_as (Chained type_id (λ n. a_request_header.spells)) is_head head_cut head_cut head_at
+    (λ h bytes c. (c.value, c.parts)) (λ h bytes is. record { value = is.0; parts = is.1 }) (λ bytes cut. cut)
+    (reads_on type_id (Begun type_id) type_at (λ n. a_request_header.spells) (λ n. a_request_header.cut) (λ n. a_request_header.at) type_reads (λ n. a_request_header.reads))
+
+is_ok : (a b : RequestHeader) → ◌≡◌ {A = Result RequestHeader BodyFault} (Ok a) (Ok b) → a ≡ b
+is_ok a b e = cc
+
+is_bad : (p q c d : ℕ) → ◌≡◌ {A = Result RequestHeader BodyFault} (Err (body.Bad p c)) (Err (body.Bad q d)) → (p ≡ q) × (c ≡ d)
+is_bad p q c d e = (cc, cc)
+
+read_said : (bytes : List ℕ) (h : RequestHeader) (place : ℕ) → (place ≤ length bytes) × is_head h (take place bytes) → (result : Result RequestHeader BodyFault) → Answers result (Ok h) → IsHeaderRead bytes result
+read_said bytes h place read (Ok x) e = (place, read.0, subst (λ y. is_head y (take place bytes)) (is_ok h x e) read.1)
+read_said bytes h place read (Err (body.Unknown n)) e = absurd cc
+read_said bytes h place read (Err (body.Bad p c)) e = absurd cc
+read_said bytes h place read (Err body.OutOfMemory) e = tt
+
+abbrev IsBadHeader : List ℕ → ℕ → ℕ → Type 0
+IsBadHeader bytes place code = ((code ≡ 0x80070000) × (place ≡ length bytes) × EndsEarly is_head head_cut bytes) ⊎ IsFault is_head head_cut bytes place code
+
+bad_said : (bytes : List ℕ) (place code : ℕ) → IsBadHeader bytes place code → (result : Result RequestHeader BodyFault) → Answers result (Err (body.Bad place code)) → IsHeaderRead bytes result
+bad_said bytes place code is_so (Ok x) e = absurd cc
+bad_said bytes place code is_so (Err (body.Unknown n)) e = absurd cc
+bad_said bytes place code is_so (Err (body.Bad p c)) e =
+    let is = is_bad place p code c e in
+    subst (λ (k : ℕ). IsBadHeader bytes k c) is.0 (subst (λ (k : ℕ). IsBadHeader bytes place k) is.1 is_so)
+bad_said bytes place code is_so (Err body.OutOfMemory) e = tt
+
+said : (bytes : List ℕ) (r : Result (RequestHeader × Input) Fault) → head_at (input 0 bytes) ≡ r → (result : Result RequestHeader BodyFault) → Answers result (judged_head (length bytes) r) → IsHeaderRead bytes result
+said bytes (Ok x) e result given = read_said bytes x.0 x.1.place (is_read is_head head_cut head_at head_reads bytes (Ok (x.0, x.1.place)) (ap sized e)) result given
+said bytes (Err Short) e result given = bad_said bytes (length bytes) 0x80070000 (inl (refl, refl, is_read is_head head_cut head_at head_reads bytes (Err faults.Short) (ap sized e))) result given
+said bytes (Err (Bad place code)) e result given = bad_said bytes place code (inr (is_read is_head head_cut head_at head_reads bytes (Err (faults.Bad place code)) (ap sized e))) result given
+
+pub header_said : (bytes : List ℕ) (result : Result RequestHeader BodyFault) → Answers result (header_at bytes) → IsHeaderRead bytes result
+header_said bytes result given = said bytes (head_at (input 0 bytes)) refl result given
+
+-- ---- what the code's steps answer
+
+pub front_fails : (bytes : List ℕ) (fault : ValueFault) → Fails fault (head_at (input 0 bytes)) → Answers (Err (body_fault (length bytes) fault)) (header_at bytes)
+front_fails bytes faults.Short failed = ap (judged_head (length bytes)) failed
+front_fails bytes (faults.Bad place code) failed = ap (judged_head (length bytes)) failed
+front_fails bytes faults.OutOfMemory failed = tt

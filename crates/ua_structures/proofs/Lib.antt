@@ -1,0 +1,4 @@
+pub mod Bodies
+pub mod BodyLaws
+pub mod Headers
+pub mod Forms

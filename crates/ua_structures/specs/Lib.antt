@@ -1,0 +1,5 @@
+pub mod Fitting
+pub mod Form
+pub mod Structures
+pub mod Body
+pub mod Header

@@ -1,0 +1,19 @@
+//! Laws of the shared structures, each the contract of a function that does nothing.
+
+ghost use Rattle.ua_values.specs.Laws.{IsLawful};
+ghost use Rattle.ua_structures.specs.Structures.{a_request_header, a_response_header, a_read_value_id};
+
+/// A RequestHeader.
+pub fn request_headers_are_lawful()
+    ensures { IsLawful a_request_header.keeps a_request_header.spells a_request_header.at a_request_header.written }
+{}
+
+/// A ResponseHeader.
+pub fn response_headers_are_lawful()
+    ensures { IsLawful a_response_header.keeps a_response_header.spells a_response_header.at a_response_header.written }
+{}
+
+/// A ReadValueId.
+pub fn read_value_ids_are_lawful()
+    ensures { IsLawful a_read_value_id.keeps a_read_value_id.spells a_read_value_id.at a_read_value_id.written }
+{}
