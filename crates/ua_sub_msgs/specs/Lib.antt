@@ -1,0 +1,3 @@
+pub mod Structures
+pub mod Numbers
+pub mod Families

@@ -1,0 +1,42 @@
+//! The messages of monitored items and subscriptions, as bytes both ways (OPC 10000-4, 5.12 and 5.13).
+#![tactic(auto)]
+
+mod filter;
+mod item;
+mod laws;
+mod notice;
+mod notification;
+mod publish;
+mod reply;
+mod request;
+mod subscription;
+#[cfg(test)]
+mod tests;
+
+pub use filter::{Filter, FilterType, read_filter, write_filter};
+pub use item::{
+    CreateMonitoredItemsRequest, CreateMonitoredItemsResponse, DataChangeFilter,
+    DeleteMonitoredItemsRequest, DeleteMonitoredItemsResponse, MonitoredItemCreateRequest,
+    MonitoredItemCreateResult, MonitoringParameters, SetMonitoringModeRequest,
+    SetMonitoringModeResponse,
+};
+pub use laws::{
+    filters_are_held, notifications_are_held, sub_replies_are_lawful, sub_requests_are_lawful,
+};
+pub use notice::{Notification, NotificationType, read_notification, write_notification};
+pub use notification::{
+    DataChangeNotification, MonitoredItemNotification, NotificationMessage,
+    StatusChangeNotification,
+};
+pub use publish::{
+    PublishRequest, PublishResponse, RepublishRequest, RepublishResponse,
+    SubscriptionAcknowledgement,
+};
+pub use reply::{SubReply, SubReplyType, read_reply, write_reply};
+pub use request::{SubRequest, SubRequestType, read_request, write_request};
+pub use subscription::{
+    CreateSubscriptionRequest, CreateSubscriptionResponse, DeleteSubscriptionsRequest,
+    DeleteSubscriptionsResponse, ModifySubscriptionRequest, ModifySubscriptionResponse,
+    SetPublishingModeRequest, SetPublishingModeResponse, TransferResult,
+    TransferSubscriptionsRequest, TransferSubscriptionsResponse,
+};
