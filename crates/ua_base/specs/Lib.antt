@@ -1,2 +1,4 @@
 pub mod Duration
+pub mod Modes
 pub mod Number
+pub mod Status

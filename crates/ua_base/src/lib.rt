@@ -6,10 +6,8 @@ mod memory;
 mod modes;
 mod number;
 pub mod status;
-#[cfg(test)]
-mod tests;
 
 pub use duration::{MOST_MS, bits_of_ms, ms_of_bits, reads_again};
 pub use memory::OutOfMemory;
-pub use modes::{Mode, SetMode};
+pub use modes::{Mode, SetMode, Timestamps, numbers_are_read_again};
 pub use number::{LAST_CHUNK, next_chunk, next_message};

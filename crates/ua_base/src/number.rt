@@ -7,7 +7,7 @@ ghost use Rattle.ua_base.specs.Number.{after_message, after_chunk};
 pub const LAST_CHUNK: u32 = 4_294_966_272;
 
 /// The sequence number of a subscription's message that comes after this one: 1 after the last one of 32 bits,
-/// since 0 is no message's number (OPC 10000-4, 5.14.1.1).
+/// since 0 is no message's number (OPC 10000-4, 5.13.1.1).
 pub fn next_message(number: u32) -> u32
     ensures { result ≡ after_message number }
 {
