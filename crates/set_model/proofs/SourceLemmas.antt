@@ -1,7 +1,7 @@
 -- What one more change makes of a source: its last changes and the rise of each item.
-use Rattle.std.proofs.Common.{◌≡◌, ◌==◌, ℕ, ◌+◌, ◌<◌, List, [], ◌∷◌, ◌++◌, Bool, true, false, cond, not, Option, Some, None, length, reverse, refl, sym, ◌∙◌, ap, arith, slice_index_or, int_lt}
+use Rattle.std.proofs.Common.{◌≡◌, ◌==◌, ℕ, ◌+◌, ◌<◌, ◌≤◌, List, [], ◌∷◌, ◌++◌, Bool, true, false, cond, not, Option, Some, None, length, reverse, refl, sym, ◌∙◌, ap, arith, slice_index_or}
 use Rattle.std.specs.List.{find}
-use Rattle.std.proofs.Common.{subst, ◌<ℤ◌}
+use Rattle.std.proofs.Common.{subst}
 use Rattle.std.specs.Prelude.{nat_le}
 use Rattle.std.proofs.lemmas.Bool.Decides.{nat_tests}
 use Rattle.std.specs.Prelude.{if◌then◌else◌, slice_set}
@@ -10,13 +10,12 @@ use Rattle.std.proofs.Common.{◌≢◌}
 use Rattle.std.proofs.lemmas.List.{reverse-append, append-nil, length-append, length-replicate, length-set, get_or-set_other, get_or-replicate}
 use Rattle.std.proofs.lemmas.Grind.{get_or-set_at}
 use Rattle.std.proofs.lemmas.List.Elements.{filter-append}
-use Rattle.std.proofs.lemmas.Int.{ints}
 use Rattle.std.proofs.lemmas.Bool.Decides.{Decides-int_eq}
 use Rattle.set_model.specs.declared.source.Change.{Change}
 use Rattle.set_model.specs.declared.source.SourceFault.{SourceFault}
 use Rattle.set_model.specs.declared.source.SourceFault.TheVariants.{Full, TimeNotRising, SameValue}
-use Rattle.set_model.specs.declared.source.TheConstants.{MOST_CHANGES}
-use Rattle.set_model.specs.Source.{of_item, Follows, RisesAfter, Rises, IsSource, last_of, refusal, refusal_after, AreLasts, End, no_end, end_after, last_at, refusal_at, IsEndOf}
+use Rattle.set_model.specs.Stamp.{is_before}
+use Rattle.set_model.specs.Source.{of_item, stamp_of, HavePicos, Follows, RisesAfter, Rises, IsSource, last_of, refusal, refusal_after, AreLasts, End, no_end, end_after, last_at, refusal_at, IsEndOf}
 
 -- the last of a list that begins with c
 abbrev pub newest_from : Change → List Change → Change
@@ -64,12 +63,12 @@ last_of-newest item (c ∷ cs) =
     ∙ newest_step (c.item == item) c (of_item item cs)
 
 -- what is not refused follows
-follows_test : (last change : Change) (later same : Bool) → int_lt last.time change.time ≡ later → int_eq change.value last.value ≡ same
-    → (if not later then Some (TimeNotRising last.time) else if same then Some SameValue else None) ≡ None → Follows last change
+follows_test : (last change : Change) (later same : Bool) → is_before (stamp_of last) (stamp_of change) ≡ later → int_eq change.value last.value ≡ same
+    → (if not later then Some (TimeNotRising (stamp_of last)) else if same then Some SameValue else None) ≡ None → Follows last change
 follows_test last change false same l s h = absurd cc
 follows_test last change true true l s h = absurd cc
 follows_test last change true false l s h = record {
-  later = grind (arith, ints);
+  later = l;
   differs = λ e. absurd (cc ((Decides-int_eq change.value last.value).1 (sym e)));
 }
 
@@ -94,9 +93,14 @@ refusal_same : (c : Change) (cs : List Change) (item : ℕ) → (c.item == item)
 refusal_same c cs item e h = let is : c.item ≡ item = grind (arith, nat_tests) in
     ap (λ o. refusal_after o c) (sym (last_of-newest item cs) ∙ ap (λ n. last_of n cs) (sym is)) ∙ h
 
+have_picos : (cs : List Change) (c : Change) → HavePicos cs → c.pico ≤ 9999 → HavePicos (cs ++ c ∷ [])
+have_picos [] c h few = (few, tt)
+have_picos (d ∷ cs) c h few = (h.0, have_picos cs c h.1 few)
+
 -- a change that is not refused keeps the source
-pub source_more : (cs : List Change) (c : Change) → IsSource cs → refusal_after (last_of c.item cs) c ≡ None → IsSource (cs ++ c ∷ [])
-source_more cs c h f = record {
+pub source_more : (cs : List Change) (c : Change) → c.pico ≤ 9999 → IsSource cs → refusal_after (last_of c.item cs) c ≡ None → IsSource (cs ++ c ∷ [])
+source_more cs c few h f = record {
+  picos = have_picos cs c h.picos few;
   rises = λ item. let P : List Change → Type 0 = Rises in
       subst P (sym (of_item-more item cs c)) (rises_item (c.item == item) (of_item item cs) c (h.rises item) (λ e. refusal_same c cs item e f));
 }
@@ -107,7 +111,7 @@ guarded true e r h = absurd cc
 guarded false e r h = h
 
 pub allowed_after : (cs : List Change) (c : Change) → refusal cs c ≡ None → refusal_after (last_of c.item cs) c ≡ None
-allowed_after cs c h = guarded (nat_le MOST_CHANGES (length cs)) Full (refusal_after (last_of c.item cs) c) h
+allowed_after cs c h = guarded (nat_le 200000 (length cs)) Full (refusal_after (last_of c.item cs) c) h
 
 lasts_at : (lasts : List (Option Change)) (cs : List Change) (c : Change) (item : ℕ) → length lasts ≡ 256 → c.item < 256 → AreLasts lasts cs → item < 256
     → (b : Bool) → (c.item == item) ≡ b → slice_index_or (slice_set lasts c.item (Some c)) item None ≡ cond b (Some c) (last_of item cs)
@@ -144,24 +148,24 @@ end_more end cs c within h = record {
 -- the end refuses what its source refuses
 pub refusal_is : (end : End) (cs : List Change) (c : Change) → c.item < 256 → IsEndOf end cs → refusal_at end c ≡ refusal cs c
 refusal_is end cs c within h =
-    ap (λ n. if nat_le MOST_CHANGES n then Some Full else refusal_after (last_at c.item end) c) h.count_is
-    ∙ ap (λ o. if nat_le MOST_CHANGES (length cs) then Some Full else refusal_after o c) (h.lasts_are.each c.item within)
+    ap (λ n. if nat_le 200000 n then Some Full else refusal_after (last_at c.item end) c) h.count_is
+    ∙ ap (λ o. if nat_le 200000 (length cs) then Some Full else refusal_after o c) (h.lasts_are.each c.item within)
 
 empty_is : (end : End) (cs : List Change) → end ≡ no_end → [] ≡ cs → IsEndOf end cs × IsSource cs
 empty_is end cs l e = let P : List Change → Type 0 = λ n. IsEndOf end n × IsSource n in
-    subst P e (no_end_is end l, record { rises = λ item. tt })
+    subst P e (no_end_is end l, record { rises = λ item. tt; picos = tt })
 
 -- an empty source is one
 pub empty_stands : (end : End) (cs : List Change) → end ≡ no_end → cs ≡ [] → IsEndOf end cs × IsSource cs
 empty_stands end cs l e = empty_is end cs l (sym e)
 
 -- a source with one change more is one
-pub more_stands : (end new : End) (cs ds : List Change) (c : Change) → c.item < 256 → refusal cs c ≡ None → IsEndOf end cs × IsSource cs
+pub more_stands : (end new : End) (cs ds : List Change) (c : Change) → c.item < 256 → c.pico ≤ 9999 → refusal cs c ≡ None → IsEndOf end cs × IsSource cs
     → new ≡ end_after end c → ds ≡ cs ++ c ∷ [] → IsEndOf new ds × IsSource ds
-more_stands end new cs ds c within free h n e =
+more_stands end new cs ds c within few free h n e =
     let P : List Change → Type 0 = λ x. IsEndOf new x × IsSource x in
     let Q : End → Type 0 = λ x. IsEndOf x (cs ++ c ∷ []) in
-    subst P (sym e) (subst Q (sym n) (end_more end cs c within h.0), source_more cs c h.1 (allowed_after cs c free))
+    subst P (sym e) (subst Q (sym n) (end_more end cs c within h.0), source_more cs c few h.1 (allowed_after cs c free))
 
 -- the changes of an item, where one of them stands between others
 pub of_item-between : (item : ℕ) (cs : List Change) (c : Change) (ds : List Change) → (c.item == item) ≡ true
@@ -173,9 +177,9 @@ follows_among : (a : Change) (cs : List Change) (c : Change) (ds : List Change) 
 follows_among a [] c ds h = h.0
 follows_among a (b ∷ cs) c ds h = follows_among b cs c ds h.1
 
-unrefused_test : (last change : Change) (later same : Bool) → int_lt last.time change.time ≡ later → int_eq change.value last.value ≡ same → Follows last change
-    → (if not later then Some (TimeNotRising last.time) else if same then Some SameValue else None) ≡ None
-unrefused_test last change false same l s f = let b : last.time <ℤ change.time = f.later in absurd (grind (arith, ints))
+unrefused_test : (last change : Change) (later same : Bool) → is_before (stamp_of last) (stamp_of change) ≡ later → int_eq change.value last.value ≡ same → Follows last change
+    → (if not later then Some (TimeNotRising (stamp_of last)) else if same then Some SameValue else None) ≡ None
+unrefused_test last change false same l s f = let e : false ≡ true = sym l ∙ f.later in absurd cc
 unrefused_test last change true true l s f = absurd (f.differs (sym ((Decides-int_eq change.value last.value).0 s)))
 unrefused_test last change true false l s f = refl
 
@@ -183,12 +187,12 @@ unrefused_after : (cs : List Change) (c : Change) (ds : List Change) → Rises (
 unrefused_after [] c ds h = refl
 unrefused_after (a ∷ cs) c ds h = unrefused_test (newest_from a cs) c _ _ refl refl (follows_among a cs c ds h)
 
-not_full : (b : Bool) (n : ℕ) (r : Option SourceFault) → nat_le MOST_CHANGES n ≡ b → n < MOST_CHANGES → r ≡ None → cond b (Some Full) r ≡ None
+not_full : (b : Bool) (n : ℕ) (r : Option SourceFault) → nat_le 200000 n ≡ b → n < 200000 → r ≡ None → cond b (Some Full) r ≡ None
 not_full true n r is few h = absurd (grind (arith, nat_tests))
 not_full false n r is few h = h
 
 -- no change of a source that is not too long is refused after those before it
-pub allowed_in_source : (cs : List Change) (c : Change) (ds : List Change) → IsSource (cs ++ c ∷ ds) → length cs < MOST_CHANGES → refusal cs c ≡ None
+pub allowed_in_source : (cs : List Change) (c : Change) (ds : List Change) → IsSource (cs ++ c ∷ ds) → length cs < 200000 → refusal cs c ≡ None
 allowed_in_source cs c ds h few =
     let P : List Change → Type 0 = Rises in
     let here : (c.item == c.item) ≡ true = grind (arith, nat_tests) in

@@ -1,12 +1,12 @@
 -- The report that a log becomes: its lines, and how many changes were delivered.
-use Rattle.std.specs.Prelude.{ℕ, List, [], ◌∷◌, ◌++◌, Bool, true, false, count_by}
+use Rattle.std.specs.Prelude.{ℕ, List, ◌++◌, Bool, true, false, count_by}
 use Rattle.std.specs.List.{flat_map}
 use Rattle.set_model.specs.declared.line.LogLine.{LogLine}
 use Rattle.set_model.specs.declared.line.LogLine.TheVariants as line
 use Rattle.set_model.specs.Line.{line_text}
 
 abbrev pub is_data : LogLine → Bool
-is_data (line.Delivered item time value status) = true
+is_data (line.Delivered item time pico value status) = true
 is_data (line.Gap item cause) = false
 is_data (line.Switch from to) = false
 is_data (line.Ready server) = false

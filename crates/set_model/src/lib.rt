@@ -4,9 +4,9 @@
 mod line;
 mod report;
 mod source;
-#[cfg(test)]
-mod tests;
+mod stamp;
 
 pub use line::{Arrived, GapCause, LogLine, Seen, UaRaw, write_line};
 pub use report::report_of;
 pub use source::{Change, MOST_CHANGES, SourceEnd, SourceFault, SourceLog};
+pub use stamp::{MOST_PICO, Stamp, stamps_are_ordered};

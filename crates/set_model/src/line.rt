@@ -1,6 +1,7 @@
 ghost use Rattle.std.specs.Prelude.{◌≡◌, ◌++◌, List, ℕ, OnOk, OnErr, IfOk, Some};
 ghost use Rattle.set_model.specs.Line.{line_text};
 
+use crate::stamp::Stamp;
 use std::alloc::Global;
 use std::fmt;
 use std::marker::Model;
@@ -69,8 +70,8 @@ impl Seen {
 /// One entry that reached the client (OPC 10000-4, 7.7, DataValue).
 #[derive(Debug, Drop)]
 pub struct Arrived {
-    /// The source time, if the entry has one.
-    pub time: Option<i64>,
+    /// The source time with its picoseconds, if the entry has one.
+    pub time: Option<Stamp>,
     /// The value; an absent one counts as the null Variant.
     pub value: Seen,
     /// The status code; an absent one is 0.
@@ -119,6 +120,7 @@ pub enum LogLine {
     Delivered {
         item: u8,
         time: i64,
+        pico: u16,
         value: Seen,
         status: u32,
     },
@@ -231,11 +233,16 @@ impl fmt::Display for LogLine {
             LogLine::Delivered {
                 item,
                 time,
+                pico,
                 value,
                 status,
             } => {
+                let stamp = Stamp {
+                    time: *time,
+                    pico: *pico,
+                };
                 let suffix = StatusSuffix(*status);
-                write!(f, "data {item} {time} {value}{suffix}\n")
+                write!(f, "data {item} {stamp} {value}{suffix}\n")
             }
             LogLine::Gap { item, cause } => write!(f, "gap {item} {cause}\n"),
             LogLine::Switch { from, to } => write!(f, "switch {from} {to}\n"),

@@ -1,6 +1,7 @@
-ghost use Rattle.std.specs.Prelude.{◌≡◌, ◌≢◌, ◌<◌, None, Some, [], ◌∷◌, ◌++◌, OnOk, OnErr, IfErr};
-ghost use Rattle.set_model.specs.Source.{end_after, last_at, last_of, no_change, no_end, refusal, refusal_after, refusal_at, IsSource};
+ghost use Rattle.std.specs.Prelude.{◌≡◌, ◌≢◌, ◌<◌, ◌≤◌, None, Some, [], ◌∷◌, ◌++◌, OnOk, OnErr, IfErr};
+ghost use Rattle.set_model.specs.Source.{end_after, last_at, last_of, no_change, no_end, refusal, refusal_after, refusal_at, stamp_of, IsSource};
 
+use crate::stamp::Stamp;
 use std::alloc::{AllocFailed, Global};
 use std::marker::Model;
 use thiserror::Error;
@@ -15,8 +16,22 @@ pub struct Change {
     pub item: u8,
     /// The source time: a DateTime, in steps of 100 ns since 1601-01-01 (OPC 10000-6, 5.2.2.5).
     pub time: i64,
+    /// The picoseconds of the source time, in steps of ten, from 0 to 9999 (OPC 10000-4, 7.7.3).
+    pub pico: u16,
     /// The value from then on.
     pub value: i64,
+}
+
+impl Change {
+    /// When the value changed.
+    pub fn stamp(self) -> Stamp
+        ensures { result ≡ stamp_of self }
+    {
+        Stamp {
+            time: self.time,
+            pico: self.pico,
+        }
+    }
 }
 
 /// Why a change was refused. The source is then as it was.
@@ -27,7 +42,7 @@ pub enum SourceFault {
     Full,
     /// The item's last change, at `last`, is not earlier.
     #[error("time not above {last}")]
-    TimeNotRising { last: i64 },
+    TimeNotRising { last: Stamp },
     /// The item has this value already.
     #[error("same value")]
     SameValue,
@@ -73,9 +88,9 @@ fn refusal_after(last: Option<Change>, change: Change) -> Option<SourceFault>
 {
     match last {
         None => None,
-        Some(last) if change.time <= last.time => {
-            Some(SourceFault::TimeNotRising { last: last.time })
-        }
+        Some(last) if !last.stamp().is_before(change.stamp()) => Some(SourceFault::TimeNotRising {
+            last: last.stamp(),
+        }),
         Some(last) if change.value == last.value => Some(SourceFault::SameValue),
         Some(_) => None,
     }
@@ -112,7 +127,7 @@ impl SourceEnd {
 
     /// One change more. Whether the source would refuse it is not asked again.
     pub fn add(&mut self, change: Change)
-        requires { self.old.count < MOST_CHANGES }
+        requires { self.old.count < 200000 }
         ensures { self.new ≡ end_after self.old change }
     {
         self.lasts[change.item as usize] = Some(change);
@@ -120,7 +135,7 @@ impl SourceEnd {
     }
 }
 
-/// The one source of a set: all changes of all items in their order. For each item the times rise strictly, and each
+/// The one source of a set: all changes of all items in their order. For each item the stamps rise strictly, and each
 /// value differs from the one before.
 #[derive(Debug, Drop)]
 pub struct SourceLog {
@@ -174,8 +189,9 @@ impl SourceLog {
         self.end.refusal(change)
     }
 
-    /// Appends a change, unless the source is full, the item's time does not rise or its value stays the same.
+    /// Appends a change, unless the source is full, the item's stamp does not rise or its value stays the same.
     pub fn append(&mut self, change: Change) -> Result<(), SourceFault>
+        requires { change.pico ≤ 9999 }
         ensures taken { OnOk result (self.new ≡ self.old ++ change ∷ []) }
         ensures allowed { OnOk result (refusal self.old change ≡ None) }
         ensures refused { IfErr result (λ fault. fault ≢ SourceFault.OutOfMemory → refusal self.old change ≡ Some fault) }
