@@ -1,4 +1,5 @@
+pub mod Entries
+pub mod Holding
 pub mod Parts
-pub mod Places
 pub mod Steps
 pub mod Window

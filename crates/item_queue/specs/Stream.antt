@@ -1,6 +1,6 @@
--- What a queue of a size holds, said of the stream of its changes and of places in it (OPC 10000-4, 5.12.1.5).
--- Nothing here knows how a queue pushes, drops or marks.
-use Rattle.std.specs.Prelude.{◌≡◌, ◌≤◌, ◌<◌, false, slice_get, ℕ, ◌+◌, ◌-◌, ◌==◌, List, [], ◌∷◌, ◌++◌, Bool, ◌&&◌, not, nat_le, length, drop, Option, Some, None}
+-- What a queue of a rule and a size holds, said of the stream of its changes and of places in it (OPC 10000-4,
+-- 5.12.1.5). Nothing here knows how a queue pushes, drops or marks.
+use Rattle.std.specs.Prelude.{◌≡◌, ◌<◌, ◌≤◌, true, false, slice_get, ℕ, zero, suc, ◌+◌, ◌-◌, ◌==◌, List, [], ◌∷◌, ◌++◌, Bool, ◌&&◌, not, nat_le, nat_lt, length, take, drop, Some, if◌then◌else◌}
 use Rattle.set_model.specs.declared.source.Change.{Change}
 use Rattle.item_queue.specs.declared.queue.Entry.{Entry}
 
@@ -10,75 +10,96 @@ pub data Call : Type 0 where
   Take : Call
   Clear : Call
 
--- all changes since it began, and the place of the one that was taken last: places count from 1, and 0 is none
+-- all changes since it began, whose places count from 1; the places that the queue holds; and the place of the change
+-- that was taken last, 0 at first
 pub record Stream : Type 0 where
   pub pushed : List Change
+  pub held : List ℕ
   pub taken : ℕ
 
 -- before any change came
 abbrev pub new_stream : Stream
-new_stream = record { pushed = []; taken = 0 }
+new_stream = record { pushed = []; held = []; taken = 0 }
 
--- a list cut to its last ones
-abbrev pub last_ones : ℕ → List Change → List Change
-last_ones count changes = drop (length changes - count) changes
+-- so many places, from one on
+abbrev pub places_from : ℕ → ℕ → List ℕ
+places_from first zero = []
+places_from first (suc count) = first ∷ places_from (first + 1) count
 
--- what came after the place last taken, cut to the last ones that the size allows
-abbrev pub window : ℕ → Stream → List Change
-window size stream = last_ones size (drop stream.taken stream.pushed)
+-- a list of places cut to its last ones
+abbrev pub last_ones : ℕ → List ℕ → List ℕ
+last_ones count places = drop (length places - count) places
 
--- the first place of the window, which ends where the stream ends
-abbrev pub first_place : ℕ → Stream → ℕ
-first_place size stream = length stream.pushed - length (window size stream) + 1
+-- the window of a stream of so many places: what is left of them without those up to the place taken last, cut to the
+-- last ones that the size allows
+abbrev pub window : ℕ → ℕ → ℕ → List ℕ
+window size taken count = last_ones size (drop taken (places_from 1 count))
 
--- a queue of two or more marks what does not stand directly after the place taken before it
-abbrev pub is_marked : ℕ → ℕ → ℕ → Bool
-is_marked size taken place = nat_le 2 size && not (place == taken + 1)
+-- a new place is put behind those held where they are fewer than the size allows, and else in the last one's place
+abbrev pub newest : ℕ → ℕ → List ℕ → List ℕ
+newest size place held =
+    if nat_lt (length held) size then held ++ place ∷ [] else take (length held - 1) held ++ place ∷ []
 
--- the changes from a place on, each marked as it would be if they were taken in turn after the one last taken
-abbrev pub in_turn : ℕ → ℕ → ℕ → List Change → List Entry
-in_turn size taken place [] = []
-in_turn size taken place (change ∷ changes) =
-    record { change = change; marked = is_marked size taken place } ∷ in_turn size place (place + 1) changes
+-- the places held when a new one came: of a queue that discards the oldest the window that ends there
+abbrev pub held_with : Bool → ℕ → ℕ → ℕ → List ℕ → List ℕ
+held_with true size taken place held = window size taken place
+held_with false size taken place held = newest size place held
 
--- the window with its marks
-abbrev pub held_of : ℕ → Stream → List Entry
-held_of size stream = in_turn size stream.taken (first_place size stream) (window size stream)
+abbrev pub stream_after_push : Bool → ℕ → Change → Stream → Stream
+stream_after_push oldest size change stream = record {
+  pushed = stream.pushed ++ change ∷ [];
+  held = held_with oldest size stream.taken (length stream.pushed + 1) stream.held;
+  taken = stream.taken;
+}
 
--- the first of the changes from a place on, with its mark
-abbrev pub first_marked : ℕ → ℕ → ℕ → List Change → Option Entry
-first_marked size taken place [] = None
-first_marked size taken place (change ∷ changes) = Some (record { change = change; marked = is_marked size taken place })
+-- a take moves the first place out of those held, and does nothing where none is held
+abbrev pub stream_after_take : List ℕ → Stream → Stream
+stream_after_take [] stream = stream
+stream_after_take (place ∷ places) stream = record stream { held = places; taken = place }
 
--- what a take gives: the window's first, with its mark
-abbrev pub oldest_of : ℕ → Stream → Option Entry
-oldest_of size stream = first_marked size stream.taken (first_place size stream) (window size stream)
-
--- a take moves to the place of the window's first, and leaves an empty window as it is
-abbrev pub stream_after_take : List Change → ℕ → Stream → Stream
-stream_after_take [] place stream = stream
-stream_after_take (change ∷ changes) place stream = record stream { taken = place }
-
--- the stream after one call on a queue of this size
-abbrev pub stream_after : ℕ → Call → Stream → Stream
-stream_after size (Push change) stream = record stream { pushed = stream.pushed ++ change ∷ [] }
-stream_after size Take stream = stream_after_take (window size stream) (first_place size stream) stream
-stream_after size Clear stream = new_stream
-
--- a take of this entry: it is the change at the window's first place, which lies after the place last taken, and that
--- is the next one where the entry is unmarked in a queue that marks
-pub record TakesAtPlace (size : ℕ) (stream : Stream) (entry : Entry) : Type 0 where
-  pub change : slice_get stream.pushed (first_place size stream - 1) ≡ Some entry.change
-  pub later : stream.taken < first_place size stream
-  pub marked : entry.marked ≡ is_marked size stream.taken (first_place size stream)
-  pub next : 2 ≤ size → entry.marked ≡ false → first_place size stream ≡ stream.taken + 1
-  pub moves : stream_after size Take stream ≡ record stream { taken = first_place size stream }
+-- the stream after one call on a queue of this rule and size
+abbrev pub stream_after : Bool → ℕ → Call → Stream → Stream
+stream_after oldest size (Push change) stream = stream_after_push oldest size change stream
+stream_after oldest size Take stream = stream_after_take stream.held stream
+stream_after oldest size Clear stream = new_stream
 
 -- the stream after more calls
-abbrev pub stream_from : ℕ → List Call → Stream → Stream
-stream_from size [] stream = stream
-stream_from size (call ∷ calls) stream = stream_from size calls (stream_after size call stream)
+abbrev pub stream_from : Bool → ℕ → List Call → Stream → Stream
+stream_from oldest size [] stream = stream
+stream_from oldest size (call ∷ calls) stream = stream_from oldest size calls (stream_after oldest size call stream)
 
 -- the stream after all calls
-abbrev pub stream_run : ℕ → List Call → Stream
-stream_run size calls = stream_from size calls new_stream
+abbrev pub stream_run : Bool → ℕ → List Call → Stream
+stream_run oldest size calls = stream_from oldest size calls new_stream
+
+-- a queue of two or more marks what does not stand directly after the place before it
+abbrev pub is_marked : ℕ → ℕ → ℕ → Bool
+is_marked size before place = nat_le 2 size && not (place == before + 1)
+
+-- an entry is the change at a place, which lies after another one, and is marked where it isn't the next one
+pub record IsAt (size : ℕ) (changes : List Change) (before place : ℕ) (entry : Entry) : Type 0 where
+  pub change : slice_get changes (place - 1) ≡ Some entry.change
+  pub later : before < place
+  pub marked : entry.marked ≡ is_marked size before place
+
+-- entries are the changes at these places, each marked by the place before it, as they are taken in turn
+abbrev pub AreAt : ℕ → List Change → ℕ → List ℕ → List Entry → Type 0
+AreAt size changes before [] [] = Unit {0}
+AreAt size changes before (place ∷ places) (entry ∷ entries) =
+    IsAt size changes before place entry × AreAt size changes place places entries
+AreAt size changes before [] (entry ∷ entries) = ⊥
+AreAt size changes before (place ∷ places) [] = ⊥
+
+-- the last of these places, or the one before them where there is none
+abbrev pub last_place : ℕ → List ℕ → ℕ
+last_place before [] = before
+last_place before (place ∷ places) = last_place place places
+
+-- a take of this entry: it is the change at the first place held, which lies after the place taken last; that is the
+-- next one where the entry is unmarked in a queue that marks
+pub record TakesAtPlace (oldest : Bool) (size : ℕ) (stream : Stream) (entry : Entry) : Type 0 where
+  pub place : ℕ
+  pub first : slice_get stream.held 0 ≡ Some place
+  pub is : IsAt size stream.pushed stream.taken place entry
+  pub next : 2 ≤ size → entry.marked ≡ false → place ≡ stream.taken + 1
+  pub moves : stream_after oldest size Take stream ≡ record stream { held = drop 1 stream.held; taken = place }

@@ -1,4 +1,5 @@
-//! The bounded queue of one monitored item (OPC 10000-4, 5.12.1.5): it drops the oldest entry where it overflows.
+//! The bounded queue of one monitored item (OPC 10000-4, 5.12.1.5): where it is full it drops its oldest entry or its
+//! newest, and marks what comes after a dropped one.
 #![tactic(auto)]
 
 mod laws;
@@ -6,5 +7,5 @@ mod queue;
 #[cfg(test)]
 mod tests;
 
-pub use laws::{holds_the_window, keeps_the_window};
-pub use queue::{Entry, ItemQueue, MOST_ENTRIES};
+pub use laws::{holds_the_places, keeps_the_places};
+pub use queue::{Entry, ItemQueue};

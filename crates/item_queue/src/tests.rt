@@ -21,6 +21,7 @@ fn change(value: i64) -> Change {
     Change {
         item: 1,
         time: value,
+        pico: 0,
         value,
     }
 }
@@ -133,7 +134,7 @@ fn drops_the_oldest_and_marks_the_next(rt: HostRuntime) -> Result<(), Fail> {
         ),
     ];
     for (size, calls) in rows {
-        let mut queue = ItemQueue::new(rt.alloc(), size)?;
+        let mut queue = ItemQueue::new(rt.alloc(), size, true)?;
         run_calls(&rt, &mut queue, calls);
     }
     Ok(())
@@ -141,7 +142,7 @@ fn drops_the_oldest_and_marks_the_next(rt: HostRuntime) -> Result<(), Fail> {
 
 #[test]
 fn takes_up_to_so_many(rt: HostRuntime) -> Result<(), Fail> {
-    let mut queue = ItemQueue::new(rt.alloc(), 3)?;
+    let mut queue = ItemQueue::new(rt.alloc(), 3, true)?;
     for value in 1..=5 {
         queue.push(change(value));
     }
@@ -159,7 +160,7 @@ fn takes_up_to_so_many(rt: HostRuntime) -> Result<(), Fail> {
 
 #[test]
 fn holds_a_thousand(rt: HostRuntime) -> Result<(), Fail> {
-    let mut queue = ItemQueue::new(rt.alloc(), 1000)?;
+    let mut queue = ItemQueue::new(rt.alloc(), 1000, true)?;
     for value in 1..=1001 {
         queue.push(change(value));
     }

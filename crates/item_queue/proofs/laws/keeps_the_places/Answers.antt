@@ -1,5 +1,5 @@
-use Rattle.item_queue.proofs.Window.{holds_start, holds_step}
-use Rattle.item_queue.proofs.laws.keeps_the_window.Goals as goal
+use Rattle.item_queue.proofs.Holding.{holds_start, holds_step}
+use Rattle.item_queue.proofs.laws.keeps_the_places.Goals as goal
 
 pub returns-clause-start : goal.returns-clause-start
 returns-clause-start c = holds_start
