@@ -1,5 +1,5 @@
 -- Each gap line is there for the entry whose data line comes next, and has its cause.
-use Rattle.std.proofs.Common.{◌≡◌, ℕ, zero, suc, ◌+◌, ◌-◌, ◌<◌, ◌≤◌, ◌⊎◌, inl, inr, ℤ, List, [], ◌∷◌, ◌++◌, length, Bool, true, false, not, int_lt, Option, Some, None, slice_get, refl, sym, ◌∙◌, ap, subst, arith}
+use Rattle.std.proofs.Common.{◌≡◌, ℕ, zero, suc, ◌+◌, ◌-◌, ◌<◌, ◌≤◌, ◌⊎◌, inl, inr, List, [], ◌∷◌, ◌++◌, length, Bool, true, false, Option, Some, None, slice_get, refl, sym, ◌∙◌, ap, subst, arith}
 use Rattle.std.specs.Prelude.{if◌then◌else◌}
 use Rattle.std.proofs.lemmas.Bool.{cases_lt}
 use Rattle.set_model.specs.declared.line.Arrived.{Arrived}
@@ -7,6 +7,8 @@ use Rattle.set_model.specs.declared.line.GapCause.{GapCause}
 use Rattle.set_model.specs.declared.line.LogLine.{LogLine}
 use Rattle.set_model.specs.declared.line.LogLine.TheVariants as line
 use Rattle.set_model.specs.declared.source.Change.{Change}
+use Rattle.set_model.specs.declared.stamp.Stamp.{Stamp}
+use Rattle.set_model.specs.Stamp.{is_before}
 use Rattle.delivery_log.specs.declared.rule.Joint.{Joint}
 use Rattle.delivery_log.specs.declared.rule.Joint.TheVariants.{Joined, Open, Held}
 use Rattle.delivery_log.specs.declared.rule.Verdict.{Verdict}
@@ -14,7 +16,7 @@ use Rattle.delivery_log.specs.declared.rule.Verdict.TheVariants.{Nothing, Delive
 use Rattle.delivery_log.specs.Judge.{has_overflow, verdict_after, verdict_of}
 use Rattle.delivery_log.specs.Log.{data_line, lines_by, timed_lines}
 use Rattle.delivery_log.specs.Caused.{IsCause, IsCaused, Caused}
-use Rattle.delivery_log.specs.History.{Act, Enter, Set, Note, joint_of, last_time, lines_after, lines_of}
+use Rattle.delivery_log.specs.History.{Act, Enter, Set, Note, joint_of, last_stamp, lines_after, lines_of}
 use Rattle.delivery_log.specs.WellFed.{is_note, IsNoteAct, AreNotes, IsFedAct, IsFed}
 
 -- reads of two lists joined
@@ -40,13 +42,13 @@ told_after Held entry cause marked e h = cc
 told_after Joined entry cause true e h = (cc, e)
 told_after Joined entry cause false e h = absurd cc
 
-told_test : (joint : Joint) (entry : Arrived) (cause : GapCause) (b : Bool) → (if not b then Nothing else verdict_after joint (has_overflow entry.status)) ≡ GapDeliver cause → IsCause joint entry cause
+told_test : (joint : Joint) (entry : Arrived) (cause : GapCause) (b : Bool) → (if b then verdict_after joint (has_overflow entry.status) else Nothing) ≡ GapDeliver cause → IsCause joint entry cause
 told_test joint entry cause false h = absurd cc
 told_test joint entry cause true h = told_after joint entry cause (has_overflow entry.status) refl h
 
-told_of : (last : Option ℤ) (joint : Joint) (time : ℤ) (entry : Arrived) (cause : GapCause) → verdict_of last joint (Some time) (has_overflow entry.status) ≡ GapDeliver cause → IsCause joint entry cause
-told_of None joint time entry cause h = absurd cc
-told_of (Some last) joint time entry cause h = told_test joint entry cause (int_lt last time) h
+told_of : (last : Option Stamp) (joint : Joint) (stamp : Stamp) (entry : Arrived) (cause : GapCause) → verdict_of last joint (Some stamp) (has_overflow entry.status) ≡ GapDeliver cause → IsCause joint entry cause
+told_of None joint stamp entry cause h = absurd cc
+told_of (Some last) joint stamp entry cause h = told_test joint entry cause (is_before last stamp) h
 
 -- a gap line among the lines of a verdict
 pub record IsFirst (i item place : ℕ) (verdict : Verdict) (cause : GapCause) : Type 0 where
@@ -54,58 +56,58 @@ pub record IsFirst (i item place : ℕ) (verdict : Verdict) (cause : GapCause) :
   pub first : place ≡ 0
   pub gap : verdict ≡ GapDeliver cause
 
-gap_first : (i item place : ℕ) (time : ℤ) (entry : Arrived) (verdict : Verdict) (cause : GapCause) → slice_get (timed_lines i time entry verdict) place ≡ Some (line.Gap item cause) → IsFirst i item place verdict cause
-gap_first i item place time entry Nothing cause h = absurd cc
-gap_first i item zero time entry Deliver cause h = absurd cc
-gap_first i item (suc place) time entry Deliver cause h = absurd cc
-gap_first i item zero time entry (GapDeliver c) cause h = record { item_is = cc; first = refl; gap = cc }
-gap_first i item (suc zero) time entry (GapDeliver c) cause h = absurd cc
-gap_first i item (suc (suc place)) time entry (GapDeliver c) cause h = absurd cc
+gap_first : (i item place : ℕ) (stamp : Stamp) (entry : Arrived) (verdict : Verdict) (cause : GapCause) → slice_get (timed_lines i stamp entry verdict) place ≡ Some (line.Gap item cause) → IsFirst i item place verdict cause
+gap_first i item place stamp entry Nothing cause h = absurd cc
+gap_first i item zero stamp entry Deliver cause h = absurd cc
+gap_first i item (suc place) stamp entry Deliver cause h = absurd cc
+gap_first i item zero stamp entry (GapDeliver c) cause h = record { item_is = cc; first = refl; gap = cc }
+gap_first i item (suc zero) stamp entry (GapDeliver c) cause h = absurd cc
+gap_first i item (suc (suc place)) stamp entry (GapDeliver c) cause h = absurd cc
 
 -- a gap line among the lines of an act
 pub record IsOwn (act : Act) (earlier : List Act) (place item : ℕ) (cause : GapCause) : Type 0 where
   pub server : ℕ
   pub entry : Arrived
-  pub time : ℤ
+  pub stamp : Stamp
   pub act_is : Enter server item entry ≡ act
   pub first : place ≡ 0
-  pub timed : entry.time ≡ Some time
-  pub next : slice_get (lines_after act earlier) 1 ≡ Some (data_line item time entry)
+  pub timed : entry.time ≡ Some stamp
+  pub next : slice_get (lines_after act earlier) 1 ≡ Some (data_line item stamp entry)
   pub told : IsCause (joint_of server item earlier) entry cause
 
-own_first : (server item place : ℕ) (time : ℤ) (entry : Arrived) (earlier : List Act) (cause : GapCause) → entry.time ≡ Some time
-    → slice_get (lines_by item (Some time) entry (verdict_of (last_time item earlier) (joint_of server item earlier) (Some time) (has_overflow entry.status))) place ≡ Some (line.Gap item cause)
+own_first : (server item place : ℕ) (stamp : Stamp) (entry : Arrived) (earlier : List Act) (cause : GapCause) → entry.time ≡ Some stamp
+    → slice_get (lines_by item (Some stamp) entry (verdict_of (last_stamp item earlier) (joint_of server item earlier) (Some stamp) (has_overflow entry.status))) place ≡ Some (line.Gap item cause)
     → IsOwn (Enter server item entry) earlier place item cause
-own_first server item place time entry earlier cause timed h =
-    let f : IsFirst item item place (verdict_of (last_time item earlier) (joint_of server item earlier) (Some time) (has_overflow entry.status)) cause = gap_first item item place time entry _ cause h in
+own_first server item place stamp entry earlier cause timed h =
+    let f : IsFirst item item place (verdict_of (last_stamp item earlier) (joint_of server item earlier) (Some stamp) (has_overflow entry.status)) cause = gap_first item item place stamp entry _ cause h in
     record {
       server = server;
       entry = entry;
-      time = time;
+      stamp = stamp;
       act_is = refl;
       first = f.first;
       timed = timed;
       next =
-          ap (λ o. slice_get (lines_by item o entry (verdict_of (last_time item earlier) (joint_of server item earlier) o (has_overflow entry.status))) 1) timed
-          ∙ ap (λ v. slice_get (timed_lines item time entry v) 1) f.gap;
-      told = told_of (last_time item earlier) (joint_of server item earlier) time entry cause f.gap;
+          ap (λ o. slice_get (lines_by item o entry (verdict_of (last_stamp item earlier) (joint_of server item earlier) o (has_overflow entry.status))) 1) timed
+          ∙ ap (λ v. slice_get (timed_lines item stamp entry v) 1) f.gap;
+      told = told_of (last_stamp item earlier) (joint_of server item earlier) stamp entry cause f.gap;
     }
 
-own_same : (server i item place : ℕ) (time : ℤ) (entry : Arrived) (earlier : List Act) (cause : GapCause) → i ≡ item → entry.time ≡ Some time
-    → slice_get (lines_by i (Some time) entry (verdict_of (last_time i earlier) (joint_of server i earlier) (Some time) (has_overflow entry.status))) place ≡ Some (line.Gap item cause)
+own_same : (server i item place : ℕ) (stamp : Stamp) (entry : Arrived) (earlier : List Act) (cause : GapCause) → i ≡ item → entry.time ≡ Some stamp
+    → slice_get (lines_by i (Some stamp) entry (verdict_of (last_stamp i earlier) (joint_of server i earlier) (Some stamp) (has_overflow entry.status))) place ≡ Some (line.Gap item cause)
     → IsOwn (Enter server i entry) earlier place item cause
-own_same server i item place time entry earlier cause is timed h =
-    let P : ℕ → Type 0 = λ n. slice_get (lines_by n (Some time) entry (verdict_of (last_time n earlier) (joint_of server n earlier) (Some time) (has_overflow entry.status))) place ≡ Some (line.Gap item cause)
+own_same server i item place stamp entry earlier cause is timed h =
+    let P : ℕ → Type 0 = λ n. slice_get (lines_by n (Some stamp) entry (verdict_of (last_stamp n earlier) (joint_of server n earlier) (Some stamp) (has_overflow entry.status))) place ≡ Some (line.Gap item cause)
     → IsOwn (Enter server n entry) earlier place item cause in
-    subst P (sym is) (λ k. own_first server item place time entry earlier cause timed k) h
+    subst P (sym is) (λ k. own_first server item place stamp entry earlier cause timed k) h
 
-own_timed : (server i item place : ℕ) (entry : Arrived) (earlier : List Act) (cause : GapCause) (o : Option ℤ) → entry.time ≡ o
-    → slice_get (lines_by i o entry (verdict_of (last_time i earlier) (joint_of server i earlier) o (has_overflow entry.status))) place ≡ Some (line.Gap item cause)
+own_timed : (server i item place : ℕ) (entry : Arrived) (earlier : List Act) (cause : GapCause) (o : Option Stamp) → entry.time ≡ o
+    → slice_get (lines_by i o entry (verdict_of (last_stamp i earlier) (joint_of server i earlier) o (has_overflow entry.status))) place ≡ Some (line.Gap item cause)
     → IsOwn (Enter server i entry) earlier place item cause
 own_timed server i item place entry earlier cause None timed h = absurd cc
-own_timed server i item place entry earlier cause (Some time) timed h =
-    let f : IsFirst i item place (verdict_of (last_time i earlier) (joint_of server i earlier) (Some time) (has_overflow entry.status)) cause = gap_first i item place time entry _ cause h in
-    own_same server i item place time entry earlier cause f.item_is timed h
+own_timed server i item place entry earlier cause (Some stamp) timed h =
+    let f : IsFirst i item place (verdict_of (last_stamp i earlier) (joint_of server i earlier) (Some stamp) (has_overflow entry.status)) cause = gap_first i item place stamp entry _ cause h in
+    own_same server i item place stamp entry earlier cause f.item_is timed h
 
 note_gap : (place item : ℕ) (cause : GapCause) (noted : LogLine) → is_note noted ≡ true → slice_get (noted ∷ []) place ≡ Some (line.Gap item cause) → ⊥
 note_gap zero item cause noted n h = let is : noted ≡ line.Gap item cause = cc in absurd (cc (ap is_note is))
@@ -123,11 +125,11 @@ caused_earlier act earlier place item cause w = record {
   before = w.before;
   server = w.server;
   entry = w.entry;
-  time = w.time;
+  stamp = w.stamp;
   came = ap (λ h. act ∷ h) w.came;
   then_at = w.then_at;
   timed = w.timed;
-  next = get_within_front (lines_of earlier) (lines_after act earlier) (place + 1) (data_line item w.time w.entry) w.next;
+  next = get_within_front (lines_of earlier) (lines_after act earlier) (place + 1) (data_line item w.stamp w.entry) w.next;
   told = w.told;
 }
 
@@ -142,7 +144,7 @@ caused_now act earlier place item cause most w =
       before = earlier;
       server = w.server;
       entry = w.entry;
-      time = w.time;
+      stamp = w.stamp;
       came = ap (λ a. a ∷ earlier) w.act_is;
       then_at = omega arith;
       timed = w.timed;

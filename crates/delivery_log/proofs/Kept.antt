@@ -1,5 +1,5 @@
 -- What the log keeps is what its history says.
-use Rattle.std.proofs.Common.{◌≡◌, ◌==◌, ◌&&◌, ℕ, ◌-◌, ◌<◌, ◌≤◌, ◌≢◌, ◌⊎◌, inl, inr, ℤ, List, [], ◌∷◌, ◌++◌, length, Bool, true, false, cond, Option, None, replicate, slice_index_or, slice_set, refl, sym, ◌∙◌, ap, arith, length-set}
+use Rattle.std.proofs.Common.{◌≡◌, ◌==◌, ◌&&◌, ℕ, ◌-◌, ◌<◌, ◌≤◌, ◌≢◌, ◌⊎◌, inl, inr, List, [], ◌∷◌, ◌++◌, length, Bool, true, false, cond, Option, None, replicate, slice_index_or, slice_set, refl, sym, ◌∙◌, ap, arith, length-set}
 use Rattle.std.proofs.lemmas.Bool.{cases_eq}
 use Rattle.std.proofs.lemmas.Bool.Decides.{nat_tests}
 use Rattle.std.proofs.lemmas.Grind.{get_or-set_at}
@@ -7,13 +7,14 @@ use Rattle.std.proofs.lemmas.List.{append-nil, get_or-set_other, get_or-replicat
 use Rattle.set_model.specs.declared.line.Arrived.{Arrived}
 use Rattle.set_model.specs.declared.line.GapCause.TheVariants.{Late}
 use Rattle.set_model.specs.declared.line.LogLine.{LogLine}
+use Rattle.set_model.specs.declared.stamp.Stamp.{Stamp}
 use Rattle.delivery_log.specs.declared.rule.Joint.{Joint}
 use Rattle.delivery_log.specs.declared.rule.Joint.TheVariants.{Open}
 use Rattle.delivery_log.specs.Judge.{joint_after, later}
 use Rattle.delivery_log.specs.State.{LogState}
 use Rattle.delivery_log.specs.Rows.{HaveWidth}
-use Rattle.delivery_log.specs.Log.{Covers, IsWithin, entered, entry_lines, joint_at, last_at, new_log, noted, with_joint}
-use Rattle.delivery_log.specs.History.{Act, Enter, Set, Note, joint_of, last_time, lines_of, acted, log_of, IsActWithin, AreWithin, StandsFor}
+use Rattle.delivery_log.specs.Log.{Covers, IsWithin, entered, entry_lines, joint_at, last_kept, new_log, noted, with_joint}
+use Rattle.delivery_log.specs.History.{Act, Enter, Set, Note, joint_of, last_stamp, lines_of, acted, log_of, IsActWithin, AreWithin, StandsFor}
 
 -- one element of a list is written
 set_test : {X : Type 0} (xs : List X) (i j : ℕ) (x d : X) → i - 1 < length xs → 1 ≤ i → 1 ≤ j → (b : Bool) → (i == j) ≡ b
@@ -63,8 +64,8 @@ joint_is : (servers items : ℕ) (log : LogState) (s i server item : ℕ) (joint
     → joint_at server item (with_joint s i joint log) ≡ cond ((s == server) && (i == item)) joint (joint_at server item log)
 joint_is servers items log s i server item joint long wide w v = joint_set log.joints servers items s i server item joint (Open Late) long wide w v (s == server) (i == item) refl refl
 
--- the time last delivered of a list in which one is set
-last_is : (lasts : List (Option ℤ)) (items i item : ℕ) (last : Option ℤ) → length lasts ≡ items → 1 ≤ i → i ≤ items → 1 ≤ item
+-- the stamp last delivered of a list in which one is set
+last_is : (lasts : List (Option Stamp)) (items i item : ℕ) (last : Option Stamp) → length lasts ≡ items → 1 ≤ i → i ≤ items → 1 ≤ item
     → slice_index_or (slice_set lasts (i - 1) last) (item - 1) None ≡ cond (i == item) last (slice_index_or lasts (item - 1) None)
 last_is lasts items i item last long i_from i_to item_from = set_test lasts i item last None (omega arith) i_from item_from (i == item) refl
 
@@ -108,31 +109,31 @@ entered_joint earlier entry s i server item here other h o true true e f =
 entered_joint earlier entry s i server item here other h o true false e f = o
 entered_joint earlier entry s i server item here other h o false c e f = o
 
-entered_last : (earlier : List Act) (entry : Arrived) (i item : ℕ) (here other : Option ℤ) → here ≡ last_time i earlier → other ≡ last_time item earlier
+entered_last : (earlier : List Act) (entry : Arrived) (i item : ℕ) (here other : Option Stamp) → here ≡ last_stamp i earlier → other ≡ last_stamp item earlier
     → (c : Bool) → (i == item) ≡ c
-    → cond c (later here entry.time) other ≡ cond c (later (last_time item earlier) entry.time) (last_time item earlier)
+    → cond c (later here entry.time) other ≡ cond c (later (last_stamp item earlier) entry.time) (last_stamp item earlier)
 entered_last earlier entry i item here other h o true f =
     let is : i ≡ item = grind (arith, nat_tests) in
-    ap (λ l. later l entry.time) (h ∙ ap (λ n. last_time n earlier) is)
+    ap (λ l. later l entry.time) (h ∙ ap (λ n. last_stamp n earlier) is)
 entered_last earlier entry i item here other h o false f = o
 
 keeps_enter : (servers items : ℕ) (earlier : List Act) (log : LogState) (s i : ℕ) (entry : Arrived) → IsWithin servers items s i → Keeps servers items earlier log
     → Keeps servers items (Enter s i entry ∷ earlier) (entered s i entry log)
 keeps_enter servers items earlier log s i entry w k =
     let here : joint_at s i log ≡ joint_of s i earlier = k.stands.joints s i w in
-    let last : last_at i log ≡ last_time i earlier = k.stands.lasts i w.item_from w.item_to in
+    let last : last_kept i log ≡ last_stamp i earlier = k.stands.lasts i w.item_from w.item_to in
     record {
       stands = record {
         lines =
-            ap (λ lines. lines ++ entry_lines i entry (last_at i log) (joint_at s i log)) k.stands.lines
+            ap (λ lines. lines ++ entry_lines i entry (last_kept i log) (joint_at s i log)) k.stands.lines
             ∙ ap (λ o. lines_of earlier ++ entry_lines i entry o (joint_at s i log)) last
-            ∙ ap (λ j. lines_of earlier ++ entry_lines i entry (last_time i earlier) j) here;
+            ∙ ap (λ j. lines_of earlier ++ entry_lines i entry (last_stamp i earlier) j) here;
         joints = λ server item v.
             joint_is servers items log s i server item (joint_after entry.time (joint_at s i log)) k.servers_are k.width w v
             ∙ entered_joint earlier entry s i server item (joint_at s i log) (joint_at server item log) here (k.stands.joints server item v) (s == server) (i == item) refl refl;
         lasts = λ item from to.
-            last_is log.lasts items i item (later (last_at i log) entry.time) k.items_are w.item_from w.item_to from
-            ∙ entered_last earlier entry i item (last_at i log) (last_at item log) last (k.stands.lasts item from to) (i == item) refl;
+            last_is log.lasts items i item (later (last_kept i log) entry.time) k.items_are w.item_from w.item_to from
+            ∙ entered_last earlier entry i item (last_kept i log) (last_kept item log) last (k.stands.lasts item from to) (i == item) refl;
       };
       servers_are = length-set log.joints (s - 1) _ ∙ k.servers_are;
       items_are = length-set log.lasts (i - 1) _ ∙ k.items_are;

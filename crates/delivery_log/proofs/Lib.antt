@@ -1,4 +1,4 @@
-pub mod Times
+pub mod Stamps
 pub mod Places
 pub mod Steps
 pub mod Former

@@ -1,10 +1,11 @@
 -- What a gap line tells: why the entry that is delivered after it may not be the next one.
-use Rattle.std.specs.Prelude.{◌≡◌, ℕ, ◌+◌, ℤ, List, ◌∷◌, ◌++◌, length, true, Some, slice_get}
+use Rattle.std.specs.Prelude.{◌≡◌, ℕ, ◌+◌, List, ◌∷◌, ◌++◌, length, true, Some, slice_get}
 use Rattle.set_model.specs.declared.line.Arrived.{Arrived}
 use Rattle.set_model.specs.declared.line.GapCause.{GapCause}
 use Rattle.set_model.specs.declared.line.GapCause.TheVariants.{Warm, Overflow}
 use Rattle.set_model.specs.declared.line.LogLine.{LogLine}
 use Rattle.set_model.specs.declared.line.LogLine.TheVariants as line
+use Rattle.set_model.specs.declared.stamp.Stamp.{Stamp}
 use Rattle.delivery_log.specs.declared.rule.Joint.{Joint}
 use Rattle.delivery_log.specs.declared.rule.Joint.TheVariants.{Joined, Open, Held}
 use Rattle.delivery_log.specs.Judge.{has_overflow}
@@ -24,11 +25,11 @@ pub record IsCaused (history : List Act) (log : List LogLine) (place item : ℕ)
   pub before : List Act
   pub server : ℕ
   pub entry : Arrived
-  pub time : ℤ
+  pub stamp : Stamp
   pub came : after ++ Enter server item entry ∷ before ≡ history
   pub then_at : length (lines_of before) ≡ place
-  pub timed : entry.time ≡ Some time
-  pub next : slice_get log (place + 1) ≡ Some (data_line item time entry)
+  pub timed : entry.time ≡ Some stamp
+  pub next : slice_get log (place + 1) ≡ Some (data_line item stamp entry)
   pub told : IsCause (joint_of server item before) entry cause
 
 -- each gap line is there for an entry, and has its cause

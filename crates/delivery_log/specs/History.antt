@@ -1,14 +1,15 @@
--- What happened to a client's log, newest first, and what it comes to: the lines, the joints and the times delivered,
+-- What happened to a client's log, newest first, and what it comes to: the lines, the joints and the stamps delivered,
 -- told from the history alone.
-use Rattle.std.specs.Prelude.{◌≡◌, ◌==◌, ◌&&◌, ℕ, ◌≤◌, ℤ, List, [], ◌∷◌, ◌++◌, Option, Some, None, if◌then◌else◌}
+use Rattle.std.specs.Prelude.{◌≡◌, ◌==◌, ◌&&◌, ℕ, ◌≤◌, List, [], ◌∷◌, ◌++◌, Option, Some, None, if◌then◌else◌}
 use Rattle.set_model.specs.declared.line.Arrived.{Arrived}
 use Rattle.set_model.specs.declared.line.GapCause.TheVariants.{Late}
 use Rattle.set_model.specs.declared.line.LogLine.{LogLine}
+use Rattle.set_model.specs.declared.stamp.Stamp.{Stamp}
 use Rattle.delivery_log.specs.declared.rule.Joint.{Joint}
 use Rattle.delivery_log.specs.declared.rule.Joint.TheVariants.{Open}
 use Rattle.delivery_log.specs.Judge.{joint_after, later}
 use Rattle.delivery_log.specs.State.{LogState}
-use Rattle.delivery_log.specs.Log.{IsWithin, entered, entry_lines, joint_at, last_at, new_log, noted, with_joint}
+use Rattle.delivery_log.specs.Log.{IsWithin, entered, entry_lines, joint_at, last_kept, new_log, noted, with_joint}
 
 -- an entry of a server and item is entered; their joint is set; a line is noted
 pub data Act : Type 0 where
@@ -16,16 +17,16 @@ pub data Act : Type 0 where
   Set : (server item : ℕ) → (joint : Joint) → Act
   Note : (line : LogLine) → Act
 
--- the time of an item's last data line after an act, from the one before it
-abbrev pub last_by : ℕ → Act → Option ℤ → Option ℤ
+-- the stamp of an item's last data line after an act, from the one before it
+abbrev pub last_by : ℕ → Act → Option Stamp → Option Stamp
 last_by item (Enter server i entry) last = if i == item then later last entry.time else last
 last_by item (Set server i joint) last = last
 last_by item (Note line) last = last
 
--- the time of an item's last data line
-abbrev pub last_time : ℕ → List Act → Option ℤ
-last_time item [] = None
-last_time item (act ∷ earlier) = last_by item act (last_time item earlier)
+-- the stamp of an item's last data line
+abbrev pub last_stamp : ℕ → List Act → Option Stamp
+last_stamp item [] = None
+last_stamp item (act ∷ earlier) = last_by item act (last_stamp item earlier)
 
 -- the joint of a server and item after an act, from the one before it
 abbrev pub joint_by : ℕ → ℕ → Act → Joint → Joint
@@ -40,7 +41,7 @@ joint_of server item (act ∷ earlier) = joint_by server item act (joint_of serv
 
 -- the lines of an act, after an earlier history
 abbrev pub lines_after : Act → List Act → List LogLine
-lines_after (Enter server item entry) earlier = entry_lines item entry (last_time item earlier) (joint_of server item earlier)
+lines_after (Enter server item entry) earlier = entry_lines item entry (last_stamp item earlier) (joint_of server item earlier)
 lines_after (Set server item joint) earlier = []
 lines_after (Note line) earlier = line ∷ []
 
@@ -82,8 +83,8 @@ abbrev pub AreWithin : ℕ → ℕ → List Act → Type 0
 AreWithin servers items [] = Unit {0}
 AreWithin servers items (act ∷ earlier) = IsActWithin servers items act × AreWithin servers items earlier
 
--- the log that is kept says what the history says: its lines, each joint, and each item's time last delivered
+-- the log that is kept says what the history says: its lines, each joint, and each item's stamp last delivered
 pub record StandsFor (servers items : ℕ) (history : List Act) (log : LogState) : Type 0 where
   pub lines : log.lines ≡ lines_of history
   pub joints : (server item : ℕ) → IsWithin servers items server item → joint_at server item log ≡ joint_of server item history
-  pub lasts : (item : ℕ) → 1 ≤ item → item ≤ items → last_at item log ≡ last_time item history
+  pub lasts : (item : ℕ) → 1 ≤ item → item ≤ items → last_kept item log ≡ last_stamp item history

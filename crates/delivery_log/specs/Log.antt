@@ -1,9 +1,10 @@
 -- What each call does to the log. Servers and items are numbered from 1.
-use Rattle.std.specs.Prelude.{ℕ, ◌≤◌, ◌-◌, length, ℤ, List, [], ◌∷◌, ◌++◌, Option, Some, None, replicate, slice_index_or, slice_set}
+use Rattle.std.specs.Prelude.{ℕ, ◌≤◌, ◌-◌, length, List, [], ◌∷◌, ◌++◌, Option, Some, None, replicate, slice_index_or, slice_set}
 use Rattle.set_model.specs.declared.line.Arrived.{Arrived}
 use Rattle.set_model.specs.declared.line.GapCause.TheVariants.{Late}
 use Rattle.set_model.specs.declared.line.LogLine.{LogLine}
 use Rattle.set_model.specs.declared.line.LogLine.TheVariants as line
+use Rattle.set_model.specs.declared.stamp.Stamp.{Stamp}
 use Rattle.delivery_log.specs.declared.rule.Joint.{Joint}
 use Rattle.delivery_log.specs.declared.rule.Joint.TheVariants.{Open}
 use Rattle.delivery_log.specs.declared.rule.Verdict.{Verdict}
@@ -34,9 +35,9 @@ pub record IsWithin (servers items server item : ℕ) : Type 0 where
 abbrev pub Covers : ℕ → ℕ → LogState → Type 0
 Covers server item log = IsWithin (length log.joints) (length log.lasts) server item
 
--- the time of an item's last data line
-abbrev pub last_at : ℕ → LogState → Option ℤ
-last_at item log = slice_index_or log.lasts (item - 1) None
+-- the stamp of an item's last data line, as the log keeps it
+abbrev pub last_kept : ℕ → LogState → Option Stamp
+last_kept item log = slice_index_or log.lasts (item - 1) None
 
 -- the joints of a server
 abbrev pub joints_at : ℕ → LogState → List Joint
@@ -52,8 +53,8 @@ with_joint server item joint log = record log {
   joints = slice_set log.joints (server - 1) (slice_set (joints_at server log) (item - 1) joint);
 }
 
--- the log with another time last delivered of an item
-abbrev pub with_last : ℕ → Option ℤ → LogState → LogState
+-- the log with another stamp last delivered of an item
+abbrev pub with_last : ℕ → Option Stamp → LogState → LogState
 with_last item last log = record log { lasts = slice_set log.lasts (item - 1) last }
 
 -- the log with more lines
@@ -64,28 +65,28 @@ with_lines lines log = record log { lines = log.lines ++ lines }
 abbrev pub noted : LogLine → LogState → LogState
 noted line log = with_lines (line ∷ []) log
 
--- the data line of an entry that has this source time
-abbrev pub data_line : ℕ → ℤ → Arrived → LogLine
-data_line item time entry = line.Delivered item time entry.value entry.status
+-- the data line of an entry that has this stamp
+abbrev pub data_line : ℕ → Stamp → Arrived → LogLine
+data_line item stamp entry = line.Delivered item stamp.time stamp.pico entry.value entry.status
 
--- the lines that an entry of this source time gains
-abbrev pub timed_lines : ℕ → ℤ → Arrived → Verdict → List LogLine
-timed_lines item time entry Nothing = []
-timed_lines item time entry Deliver = data_line item time entry ∷ []
-timed_lines item time entry (GapDeliver cause) = line.Gap item cause ∷ data_line item time entry ∷ []
+-- the lines that an entry of this stamp gains
+abbrev pub timed_lines : ℕ → Stamp → Arrived → Verdict → List LogLine
+timed_lines item stamp entry Nothing = []
+timed_lines item stamp entry Deliver = data_line item stamp entry ∷ []
+timed_lines item stamp entry (GapDeliver cause) = line.Gap item cause ∷ data_line item stamp entry ∷ []
 
 -- the lines that an entry gains: none where it has no source time
-abbrev pub lines_by : ℕ → Option ℤ → Arrived → Verdict → List LogLine
+abbrev pub lines_by : ℕ → Option Stamp → Arrived → Verdict → List LogLine
 lines_by item None entry verdict = []
-lines_by item (Some time) entry verdict = timed_lines item time entry verdict
+lines_by item (Some stamp) entry verdict = timed_lines item stamp entry verdict
 
--- the lines of an entry, by the time of the item's last data line and the joint
-abbrev pub entry_lines : ℕ → Arrived → Option ℤ → Joint → List LogLine
+-- the lines of an entry, by the stamp of the item's last data line and the joint
+abbrev pub entry_lines : ℕ → Arrived → Option Stamp → Joint → List LogLine
 entry_lines item entry last joint = lines_by item entry.time entry (verdict_of last joint entry.time (has_overflow entry.status))
 
 -- the log after an entry of a server and item
 abbrev pub entered : ℕ → ℕ → Arrived → LogState → LogState
 entered server item entry log =
     with_joint server item (joint_after entry.time (joint_at server item log))
-    (with_last item (later (last_at item log) entry.time)
-    (with_lines (entry_lines item entry (last_at item log) (joint_at server item log)) log))
+    (with_last item (later (last_kept item log) entry.time)
+    (with_lines (entry_lines item entry (last_kept item log) (joint_at server item log)) log))

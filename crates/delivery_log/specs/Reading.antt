@@ -1,13 +1,15 @@
 -- What a safe log tells its reader, without places or a walk: said of any data line, and of any two neighbouring ones.
-use Rattle.std.specs.Prelude.{◌≡◌, ℕ, ℤ, ◌<ℤ◌, List, [], ◌∷◌, ◌++◌, Bool, true, false, Some, slice_get}
+use Rattle.std.specs.Prelude.{◌≡◌, ℕ, List, [], ◌∷◌, ◌++◌, Bool, true, false, Some, slice_get}
 use Rattle.set_model.specs.declared.line.LogLine.{LogLine}
 use Rattle.set_model.specs.declared.line.Seen.{Seen}
 use Rattle.set_model.specs.declared.source.Change.{Change}
-use Rattle.set_model.specs.Source.{of_item}
+use Rattle.set_model.specs.declared.stamp.Stamp.{Stamp}
+use Rattle.set_model.specs.Source.{of_item, stamp_of}
+use Rattle.set_model.specs.Stamp.{is_before}
 use Rattle.delivery_log.specs.Safe.{Part, DataLine, GapLine, OtherLine, HeardLine, IsChangeAt, part_of}
 
 abbrev pub is_data : Part → Bool
-is_data (DataLine time value) = true
+is_data (DataLine stamp value) = true
 is_data GapLine = false
 is_data OtherLine = false
 is_data HeardLine = false
@@ -32,16 +34,16 @@ pub record EndInGap (item : ℕ) (lines : List LogLine) : Type 0 where
   pub heard_are : AreHeard item heard
 
 -- a data line of an item stands in the log
-pub record IsInLog (item : ℕ) (log : List LogLine) (time : ℤ) (value : Seen) : Type 0 where
+pub record IsInLog (item : ℕ) (log : List LogLine) (stamp : Stamp) (value : Seen) : Type 0 where
   pub front : List LogLine
   pub shown : LogLine
   pub back : List LogLine
   pub is : log ≡ front ++ shown ∷ back
-  pub shown_is : part_of item shown ≡ DataLine time value
+  pub shown_is : part_of item shown ≡ DataLine stamp value
 
--- two data lines of an item, at these times, stand in the log with these lines between them, of which none is a data
+-- two data lines of an item, of these stamps, stand in the log with these lines between them, of which none is a data
 -- line of the item
-pub record AreNeighbours (item : ℕ) (log : List LogLine) (first : ℤ) (between : List LogLine) (second : ℤ) : Type 0 where
+pub record AreNeighbours (item : ℕ) (log : List LogLine) (first : Stamp) (between : List LogLine) (second : Stamp) : Type 0 where
   pub front : List LogLine
   pub former : LogLine
   pub latter : LogLine
@@ -53,13 +55,13 @@ pub record AreNeighbours (item : ℕ) (log : List LogLine) (first : ℤ) (betwee
   pub latter_is : part_of item latter ≡ DataLine second latter_value
   pub none : HaveNoData item between
 
--- each data line is a change of the source; of two neighbouring ones the later is later in time; and where a change of
--- the item lies between their times, a gap line of the item stands directly before the later one
+-- each data line is a change of the source; of two neighbouring ones the later has the later stamp; and where a change
+-- of the item lies between their stamps, a gap line of the item stands directly before the later one
 pub record Tells (source : List Change) (log : List LogLine) : Type 0 where
-  pub change : (item : ℕ) (time : ℤ) (value : Seen) → IsInLog item log time value
-      → (place : ℕ) × IsChangeAt (of_item item source) place time value
-  pub order : (item : ℕ) (first second : ℤ) (between : List LogLine) → AreNeighbours item log first between second
-      → first <ℤ second
-  pub gap : (item : ℕ) (first second : ℤ) (between : List LogLine) → AreNeighbours item log first between second
+  pub change : (item : ℕ) (stamp : Stamp) (value : Seen) → IsInLog item log stamp value
+      → (place : ℕ) × IsChangeAt (of_item item source) place stamp value
+  pub order : (item : ℕ) (first second : Stamp) (between : List LogLine) → AreNeighbours item log first between second
+      → is_before first second ≡ true
+  pub gap : (item : ℕ) (first second : Stamp) (between : List LogLine) → AreNeighbours item log first between second
       → (place : ℕ) (missing : Change) → slice_get (of_item item source) place ≡ Some missing
-      → first <ℤ missing.time → missing.time <ℤ second → EndInGap item between
+      → is_before first (stamp_of missing) ≡ true → is_before (stamp_of missing) second ≡ true → EndInGap item between

@@ -1,9 +1,10 @@
 -- What a history owes the log, for its lines to be safe.
-use Rattle.std.specs.Prelude.{◌≡◌, ℕ, ◌+◌, ◌<◌, ℤ, List, [], ◌∷◌, Bool, true, false, Some, IsSomeAnd}
+use Rattle.std.specs.Prelude.{◌≡◌, ℕ, ◌+◌, ◌<◌, List, [], ◌∷◌, Bool, true, false, Some, IsSomeAnd}
 use Rattle.set_model.specs.declared.line.Arrived.{Arrived}
 use Rattle.set_model.specs.declared.line.LogLine.{LogLine}
 use Rattle.set_model.specs.declared.line.LogLine.TheVariants as line
 use Rattle.set_model.specs.declared.source.Change.{Change}
+use Rattle.set_model.specs.declared.stamp.Stamp.{Stamp}
 use Rattle.set_model.specs.Source.{of_item}
 use Rattle.delivery_log.specs.declared.rule.Joint.TheVariants.{Joined}
 use Rattle.delivery_log.specs.Judge.{has_overflow}
@@ -12,7 +13,7 @@ use Rattle.delivery_log.specs.History.{Act, Enter, Set, Note, joint_of, previous
 
 -- the line tells of no entry
 abbrev pub is_note : LogLine → Bool
-is_note (line.Delivered item time value status) = false
+is_note (line.Delivered item time pico value status) = false
 is_note (line.Gap item cause) = false
 is_note (line.Switch from to) = true
 is_note (line.Ready server) = true
@@ -23,13 +24,13 @@ is_note (line.Done changes) = true
 
 -- the entry is the change at a place among the changes of its item
 pub record IsAt (source : List Change) (item : ℕ) (entry : Arrived) (place : ℕ) : Type 0 where
-  pub time : ℤ
-  pub timed : entry.time ≡ Some time
-  pub shows : IsChangeAt (of_item item source) place time entry.value
+  pub stamp : Stamp
+  pub timed : entry.time ≡ Some stamp
+  pub shows : IsChangeAt (of_item item source) place stamp entry.value
 
 -- the entry is a change of its item, where it has a source time
 pub record IsFedEntry (source : List Change) (item : ℕ) (entry : Arrived) : Type 0 where
-  pub fed : (time : ℤ) → entry.time ≡ Some time → (place : ℕ) × IsChangeAt (of_item item source) place time entry.value
+  pub fed : (stamp : Stamp) → entry.time ≡ Some stamp → (place : ℕ) × IsChangeAt (of_item item source) place stamp entry.value
 
 -- one entry is a later change than another; and where it is without the overflow bit, the very next one
 pub record Linked (source : List Change) (item : ℕ) (former entry : Arrived) : Type 0 where
@@ -50,7 +51,7 @@ IsFedAct source (Note line) = is_note line ≡ true
 -- these and this one are linked
 abbrev pub IsLinkedAct : List Change → Act → List Act → Type 0
 IsLinkedAct source (Enter server item entry) earlier =
-    (time : ℤ) → entry.time ≡ Some time → joint_of server item earlier ≡ Joined
+    (stamp : Stamp) → entry.time ≡ Some stamp → joint_of server item earlier ≡ Joined
     → IsSomeAnd (previous server item earlier) (λ former. Linked source item former entry)
 IsLinkedAct source (Set server item joint) earlier = Unit {0}
 IsLinkedAct source (Note line) earlier = Unit {0}

@@ -4,7 +4,7 @@ ghost use Rattle.delivery_log.specs.declared.rule.Joint.TheVariants.{Open};
 ghost use Rattle.delivery_log.specs.Log.{Covers, data_line, entered, joint_at, late_joints, lines_by, new_log, noted, with_joint};
 
 use crate::rule::{Joint, Verdict, has_overflow, judge, later};
-use set_model::{Arrived, GapCause, LogLine};
+use set_model::{Arrived, GapCause, LogLine, Stamp};
 use std::alloc::Global;
 use std::marker::Model;
 use ua_base::OutOfMemory;
@@ -60,7 +60,7 @@ fn late_joints(alloc: Global, servers: u8, items: u8) -> Result<Vec<Joints>, Out
     Ok(joints)
 }
 
-/// The lines that an entry of this time gains by the verdict on it, after those that are there.
+/// Appends the lines that an entry gains by the verdict on it: none where it has no source time.
 fn push_lines(
     alloc: Global,
     lines: &mut Vec<LogLine>,
@@ -71,15 +71,15 @@ fn push_lines(
     ensures ok { OnOk result (lines.new.items ≡ lines.old.items ++ lines_by item entry.now.time entry.now verdict) }
     ensures err { OnErr result (lines.new.items ≡ lines.old.items) }
 {
-    let Some(time) = entry.time else {
+    let Some(stamp) = entry.time else {
         return Ok(());
     };
     match verdict {
         Verdict::Nothing => Ok(()),
-        Verdict::Deliver => push_data(alloc, lines, item, time, entry),
+        Verdict::Deliver => push_data(alloc, lines, item, stamp, entry),
         Verdict::GapDeliver(cause) => {
             lines.reserve(2)?;
-            let data = data_line(alloc, item, time, entry)?;
+            let data = data_line(alloc, item, stamp, entry)?;
             lines.push(LogLine::Gap { item, cause })?;
             lines.push(data)?;
             Ok(())
@@ -87,13 +87,14 @@ fn push_lines(
     }
 }
 
-fn data_line(alloc: Global, item: u8, time: i64, entry: &Arrived) -> Result<LogLine, OutOfMemory>
-    ensures { IfOk result (λ line. line ≡ data_line item time entry.now) }
+fn data_line(alloc: Global, item: u8, stamp: Stamp, entry: &Arrived) -> Result<LogLine, OutOfMemory>
+    ensures { IfOk result (λ line. line ≡ data_line item stamp entry.now) }
 {
     let value = entry.value.copy(alloc)?;
     Ok(LogLine::Delivered {
         item,
-        time,
+        time: stamp.time,
+        pico: stamp.pico,
         value,
         status: entry.status,
     })
@@ -103,20 +104,20 @@ fn push_data(
     alloc: Global,
     lines: &mut Vec<LogLine>,
     item: u8,
-    time: i64,
+    stamp: Stamp,
     entry: &Arrived,
 ) -> Result<(), OutOfMemory>
-    ensures ok { OnOk result (lines.new.items ≡ lines.old.items ++ data_line item time entry.now ∷ []) }
+    ensures ok { OnOk result (lines.new.items ≡ lines.old.items ++ data_line item stamp entry.now ∷ []) }
     ensures err { OnErr result (lines.new.items ≡ lines.old.items) }
 {
-    lines.push(data_line(alloc, item, time, entry)?)?;
+    lines.push(data_line(alloc, item, stamp, entry)?)?;
     Ok(())
 }
 
 /// The client's log: its lines, and what the rule needs of what was delivered.
 #[derive(Debug, Drop)]
 pub struct Log {
-    lasts: Vec<Option<i64>>,
+    lasts: Vec<Option<Stamp>>,
     joints: Vec<Joints>,
     lines: Vec<LogLine>,
 }

@@ -10,7 +10,7 @@ ghost use Rattle.delivery_log.specs.Safe.{InOrder, Safe};
 ghost use Rattle.delivery_log.specs.WellFed.{AreNotes, IsFed, WellFed};
 
 /// After any acts on the servers and items of a log, what it keeps is what the acts say: its lines, each joint, and
-/// the time of each item's last data line.
+/// the stamp of each item's last data line.
 pub fn log_stands_for_its_history()
     ensures { (servers items : ℕ) (history : List Act) → AreWithin servers items history → StandsFor servers items history (log_of servers items history) }
 {}
@@ -34,7 +34,7 @@ pub fn gaps_have_true_causes()
     ensures { (history : List Act) → AreNotes history → Caused history (lines_of history) }
 {}
 
-/// What a safe log tells its reader: each data line is a change of the source, the times of an item's data lines rise,
+/// What a safe log tells its reader: each data line is a change of the source, the stamps of an item's data lines rise,
 /// and where a change of the item lies between two neighbouring ones, a gap line of the item stands directly before
 /// the later one, but for lines of what listeners heard.
 pub fn safe_log_tells()

@@ -1,7 +1,7 @@
 ghost use Rattle.std.specs.Prelude.{◌≡◌};
-ghost use Rattle.delivery_log.specs.Judge.{has_overflow, joint_after, judged, later, unless_held, verdict_after, verdict_of};
+ghost use Rattle.delivery_log.specs.Judge.{has_overflow, joint_after, judge, later, unless_held, verdict_after, verdict_of};
 
-use set_model::GapCause;
+use set_model::{GapCause, Stamp};
 use ua_base::status::{OVERFLOW_BITS, OVERFLOW_MASK};
 
 /// What is known, for one server and item, of what lies between its entries and the item's last data line.
@@ -35,14 +35,14 @@ pub(crate) fn has_overflow(status: u32) -> bool
     status & OVERFLOW_MASK == OVERFLOW_BITS
 }
 
-/// The time last delivered, after an entry of this time.
-pub(crate) fn later(last: Option<i64>, time: Option<i64>) -> Option<i64>
+/// The stamp last delivered, after an entry of this stamp.
+pub(crate) fn later(last: Option<Stamp>, time: Option<Stamp>) -> Option<Stamp>
     ensures { result ≡ later last time }
 {
     match (last, time) {
         (last, None) => last,
         (None, time) => time,
-        (Some(last), Some(time)) => Some(if time <= last { last } else { time }),
+        (Some(last), Some(time)) => Some(if last.is_before(time) { time } else { last }),
     }
 }
 
@@ -55,7 +55,7 @@ fn unless_held(joint: Joint, next: Joint) -> Joint
     }
 }
 
-fn joint_after(time: Option<i64>, joint: Joint) -> Joint
+fn joint_after(time: Option<Stamp>, joint: Joint) -> Joint
     ensures { result ≡ joint_after time joint }
 {
     match time {
@@ -75,22 +75,27 @@ fn verdict_after(joint: Joint, marked: bool) -> Verdict
     }
 }
 
-fn verdict_of(last: Option<i64>, joint: Joint, time: Option<i64>, marked: bool) -> Verdict
+fn verdict_of(last: Option<Stamp>, joint: Joint, time: Option<Stamp>, marked: bool) -> Verdict
     ensures { result ≡ verdict_of last joint time marked }
 {
     match (last, time) {
         (_, None) => Verdict::Nothing,
         (None, Some(_)) => Verdict::Deliver,
-        (Some(last), Some(time)) if time <= last => Verdict::Nothing,
-        (Some(_), Some(_)) => verdict_after(joint, marked),
+        (Some(last), Some(time)) if last.is_before(time) => verdict_after(joint, marked),
+        (Some(_), Some(_)) => Verdict::Nothing,
     }
 }
 
-/// The rule of the log: what an entry of this source time gains, and the joint after it. `last` is the time of the
-/// item's last data line, `joint` that of the entry's server and item, and `marked` says that the entry's status has
-/// the overflow bit.
-pub fn judge(last: Option<i64>, joint: Joint, time: Option<i64>, marked: bool) -> (Verdict, Joint)
-    ensures { result ≡ judged last joint time marked }
+/// The rule of the log: what an entry gains, and the joint after it. `last` is the stamp of the item's last data line,
+/// `joint` that of the entry's server and item, `time` the entry's own stamp, and `marked` says that its status has the
+/// overflow bit.
+pub fn judge(
+    last: Option<Stamp>,
+    joint: Joint,
+    time: Option<Stamp>,
+    marked: bool,
+) -> (Verdict, Joint)
+    ensures { result ≡ judge last joint time marked }
 {
     (
         verdict_of(last, joint, time, marked),

@@ -2,7 +2,7 @@ ghost use Rattle.std.specs.Prelude.{◌≡◌, length};
 ghost use Rattle.delivery_log.specs.Log.{IsWithin};
 
 use crate::{Joint, Log, Verdict, judge};
-use set_model::{Arrived, GapCause, LogLine, Seen, UaRaw, write_line};
+use set_model::{Arrived, GapCause, LogLine, Seen, Stamp, UaRaw, write_line};
 use std::alloc::Global;
 use ua_base::OutOfMemory;
 
@@ -12,23 +12,20 @@ const LOST: Joint = Joint::Open(GapCause::Lost);
 
 const NO_TIME: Joint = Joint::Open(GapCause::NoTime);
 
+fn at(time: i64) -> Option<Stamp> {
+    Some(Stamp { time, pico: 0 })
+}
+
 // Each of the four cases of the rule, with each kind of joint.
 #[test]
 fn judges_by_the_rule(rt: HostRuntime) {
     let rows = [
         // without a source time
         (None, LATE, None, false, Verdict::Nothing, NO_TIME),
-        (Some(10), LOST, None, true, Verdict::Nothing, NO_TIME),
+        (at(10), LOST, None, true, Verdict::Nothing, NO_TIME),
+        (at(10), Joint::Joined, None, true, Verdict::Nothing, NO_TIME),
         (
-            Some(10),
-            Joint::Joined,
-            None,
-            true,
-            Verdict::Nothing,
-            NO_TIME,
-        ),
-        (
-            Some(10),
+            at(10),
             Joint::Held,
             None,
             false,
@@ -36,36 +33,29 @@ fn judges_by_the_rule(rt: HostRuntime) {
             Joint::Held,
         ),
         // with a time that is not above the last one
+        (at(10), LATE, at(10), false, Verdict::Nothing, Joint::Joined),
         (
-            Some(10),
-            LATE,
-            Some(10),
-            false,
-            Verdict::Nothing,
+            at(10),
             Joint::Joined,
-        ),
-        (
-            Some(10),
-            Joint::Joined,
-            Some(-9),
+            at(-9),
             true,
             Verdict::Nothing,
             Joint::Joined,
         ),
         (
-            Some(10),
+            at(10),
             Joint::Held,
-            Some(10),
+            at(10),
             true,
             Verdict::Nothing,
             Joint::Held,
         ),
         // where nothing was delivered
-        (None, LATE, Some(-7), true, Verdict::Deliver, Joint::Joined),
+        (None, LATE, at(-7), true, Verdict::Deliver, Joint::Joined),
         (
             None,
             Joint::Joined,
-            Some(0),
+            at(0),
             true,
             Verdict::Deliver,
             Joint::Joined,
@@ -73,48 +63,48 @@ fn judges_by_the_rule(rt: HostRuntime) {
         (
             None,
             Joint::Held,
-            Some(5),
+            at(5),
             false,
             Verdict::Deliver,
             Joint::Held,
         ),
         // above the last one
         (
-            Some(10),
+            at(10),
             LATE,
-            Some(11),
+            at(11),
             true,
             Verdict::GapDeliver(GapCause::Late),
             Joint::Joined,
         ),
         (
-            Some(10),
+            at(10),
             LOST,
-            Some(11),
+            at(11),
             false,
             Verdict::GapDeliver(GapCause::Lost),
             Joint::Joined,
         ),
         (
-            Some(10),
+            at(10),
             Joint::Joined,
-            Some(11),
+            at(11),
             false,
             Verdict::Deliver,
             Joint::Joined,
         ),
         (
-            Some(10),
+            at(10),
             Joint::Joined,
-            Some(11),
+            at(11),
             true,
             Verdict::GapDeliver(GapCause::Overflow),
             Joint::Joined,
         ),
         (
-            Some(-10),
+            at(-10),
             Joint::Held,
-            Some(-9),
+            at(-9),
             false,
             Verdict::GapDeliver(GapCause::Warm),
             Joint::Held,
@@ -125,7 +115,7 @@ fn judges_by_the_rule(rt: HostRuntime) {
     }
 }
 
-fn whole(time: Option<i64>, value: i64, status: u32) -> Arrived {
+fn whole(time: Option<Stamp>, value: i64, status: u32) -> Arrived {
     Arrived {
         time,
         value: Seen::Whole(value),
@@ -162,28 +152,28 @@ fn text_of(alloc: Global, log: &Log) -> Result<Vec<u8>, OutOfMemory> {
 fn writes_the_lines_of_two_servers(rt: HostRuntime) -> Result<(), OutOfMemory> {
     let alloc = rt.alloc();
     let mut log = Log::new(alloc, 2, 2)?;
-    enter(alloc, &mut log, 1, 1, whole(Some(10), 1, 0))?;
-    enter(alloc, &mut log, 1, 1, whole(Some(20), 2, 0))?;
-    enter(alloc, &mut log, 2, 1, whole(Some(20), 2, 0x0480))?;
-    enter(alloc, &mut log, 2, 1, whole(Some(40), 4, 0x0480))?;
-    enter(alloc, &mut log, 1, 1, whole(Some(30), 3, 0))?;
+    enter(alloc, &mut log, 1, 1, whole(at(10), 1, 0))?;
+    enter(alloc, &mut log, 1, 1, whole(at(20), 2, 0))?;
+    enter(alloc, &mut log, 2, 1, whole(at(20), 2, 0x0480))?;
+    enter(alloc, &mut log, 2, 1, whole(at(40), 4, 0x0480))?;
+    enter(alloc, &mut log, 1, 1, whole(at(30), 3, 0))?;
     assert!(rt; log.joint(2, 1) == Joint::Joined);
     assert!(rt; log.joint(2, 2) == LATE);
-    enter(alloc, &mut log, 1, 2, whole(Some(15), -7, 0))?;
+    enter(alloc, &mut log, 1, 2, whole(at(15), -7, 0))?;
     let bytes = vec![in alloc; 1_u8, 255]?;
     let raw = Arrived {
-        time: Some(16),
+        time: at(16),
         value: Seen::Raw(UaRaw::new(bytes)),
         status: 0x8000_0000,
     };
     enter(alloc, &mut log, 2, 2, raw)?;
     log.set_joint(1, 2, Joint::Held);
     enter(alloc, &mut log, 1, 2, whole(None, 8, 0))?;
-    enter(alloc, &mut log, 1, 2, whole(Some(17), 8, 0))?;
+    enter(alloc, &mut log, 1, 2, whole(at(17), 8, 0))?;
     assert!(rt; log.joint(1, 2) == Joint::Held);
     enter(alloc, &mut log, 2, 1, whole(None, 5, 0))?;
     assert!(rt; log.joint(2, 1) == NO_TIME);
-    enter(alloc, &mut log, 2, 1, whole(Some(50), 5, 0))?;
+    enter(alloc, &mut log, 2, 1, whole(at(50), 5, 0))?;
     log.note(LogLine::Switch { from: 0, to: 2 })?;
     let text = text_of(alloc, &log)?;
     let lines = b"data 1 10 1\ndata 1 20 2\ngap 1 overflow\ndata 1 40 4\ndata 2 15 -7\n\
