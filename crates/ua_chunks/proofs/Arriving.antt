@@ -12,11 +12,10 @@ use Rattle.ua_chunks.specs.declared.frame.Chunk.{Chunk}
 use Rattle.ua_chunks.specs.declared.frame.Chunk.TheVariants as chunk
 use Rattle.ua_chunks.specs.declared.frame.Frame.{Frame}
 use Rattle.ua_chunks.specs.declared.message.ChunkHead.{ChunkHead}
-use Rattle.ua_chunks.specs.declared.message.TheConstants.{MOST_CHUNKS, MOST_MESSAGE}
 use Rattle.ua_chunks.specs.Frames.{moved}
 use Rattle.ua_chunks.specs.Assembly.{Assembly, after_frame, at_place, first_fault, and_then, assembled, fault_after, has_room, head_of, is_former, message_by, message_of, messages_of, numbered, refusal, refusal_of, takes_number, takes_request, takes_token, unless_faulty, with_chunk, with_fault, without_message}
-use Rattle.ua_chunks.specs.Sending.{Part, Sending, after_parts, limit_of, limited, message_parts, part, room, stepped, written_head}
-use Rattle.ua_chunks.specs.Arrival.{InStep, IsSending, placed}
+use Rattle.ua_chunks.specs.Sending.{IsSending, Part, Sending, after_parts, limit_of, limited, message_parts, part, in_chunk, stepped, written_head}
+use Rattle.ua_chunks.specs.Arrival.{InStep, placed}
 use Rattle.ua_chunks.proofs.Chunking.{head_long, next_fits, parts_last, parts_more}
 
 -- ---- the head
@@ -143,8 +142,8 @@ after_middle request bytes s a ready = record {
 
 room_is : (count : ℕ) (a : Assembly) → a.chunks < 64 → length a.body + count ≤ 1048576 → has_room count a ≡ true
 room_is count a chunks fits =
-    let few : nat_lt a.chunks MOST_CHUNKS ≡ true = lt-ltb a.chunks MOST_CHUNKS chunks in
-    let small : nat_le (length a.body + count) MOST_MESSAGE ≡ true = grind (arith, nat_tests) in
+    let few : nat_lt a.chunks 64 ≡ true = lt-ltb a.chunks 64 chunks in
+    let small : nat_le (length a.body + count) 1048576 ≡ true = grind (arith, nat_tests) in
     rw (few, small) refl
 
 pub record Arrives (place : ℕ) (k : Kind) (request : ℕ) (bytes : List ℕ) (s : Sending) (a : Assembly) : Type 0 where
@@ -162,19 +161,19 @@ arrives_last place k request bytes s a is lt ready fits all =
       sending = subst (λ ps. IsSending (after_parts ps s)) (sym all) (stepped_is s is);
     }
 
-arrives_more : (place : ℕ) (k : Kind) (request : ℕ) (bytes : List ℕ) (s : Sending) (a : Assembly) → IsSending s → request < 2 ^ 32 → Ready request s a → has_room (length (take (room s) bytes)) a ≡ true
-    → message_parts k request bytes s ≡ part k chunk.Middle request (take (room s) bytes) s ∷ message_parts k request (drop (room s) bytes) (stepped s)
-    → ((p : ℕ) → Arrives p k request (drop (room s) bytes) (stepped s) (with_middle request (take (room s) bytes) s a))
+arrives_more : (place : ℕ) (k : Kind) (request : ℕ) (bytes : List ℕ) (s : Sending) (a : Assembly) → IsSending s → request < 2 ^ 32 → Ready request s a → has_room (length (take (in_chunk s) bytes)) a ≡ true
+    → message_parts k request bytes s ≡ part k chunk.Middle request (take (in_chunk s) bytes) s ∷ message_parts k request (drop (in_chunk s) bytes) (stepped s)
+    → ((p : ℕ) → Arrives p k request (drop (in_chunk s) bytes) (stepped s) (with_middle request (take (in_chunk s) bytes) s a))
     → Arrives place k request bytes s a
 arrives_more place k request bytes s a is lt ready fits all others =
-    let front = take (room s) bytes in
-    let back = drop (room s) bytes in
+    let front = take (in_chunk s) bytes in
+    let back = drop (in_chunk s) bytes in
     let f = frame_in place (part k chunk.Middle request front s) in
     let next = moved place (8 + length f.body) in
     let t = takes_chunk place k chunk.Middle request front s a is lt ready fits in
     let o = others next in
     let parts = message_parts k request back (stepped s) in
-    let whole : (a.body ++ front) ++ back ≡ a.body ++ bytes = append_assoc a.body front back ∙ ap (λ (l : List ℕ). a.body ++ l) (take-append-drop (room s) bytes) in
+    let whole : (a.body ++ front) ++ back ≡ a.body ++ bytes = append_assoc a.body front back ∙ ap (λ (l : List ℕ). a.body ++ l) (take-append-drop (in_chunk s) bytes) in
     record {
       messages = ap (λ ps. messages_of (placed place ps) a) all
           ∙ ap (λ m. and_then m (messages_of (placed next parts) (after_frame f a))) t.message
@@ -188,19 +187,19 @@ arrives_more place k request bytes s a is lt ready fits all others =
 
 -- a message that has room in so many chunks and one more
 pub arrives : (c place : ℕ) (k : Kind) (request : ℕ) (bytes : List ℕ) (s : Sending) (a : Assembly) → IsSending s → request < 2 ^ 32 → Ready request s a
-    → length bytes ≤ room s * suc c → a.chunks + suc c ≤ 64 → length a.body + length bytes ≤ 1048576 → Arrives place k request bytes s a
+    → length bytes ≤ in_chunk s * suc c → a.chunks + suc c ≤ 64 → length a.body + length bytes ≤ 1048576 → Arrives place k request bytes s a
 arrives zero place k request bytes s a is lt ready fits chunks most =
-    let times = mul-suc (room s) 0 in
+    let times = mul-suc (in_chunk s) 0 in
     arrives_last place k request bytes s a is lt ready (room_is (length bytes) a (omega arith) most) (parts_last k request bytes s (omega (arith, times)))
-arrives (suc c) place k request bytes s a is lt ready fits chunks most = elim (cases_lt (room s) (length bytes)) [
+arrives (suc c) place k request bytes s a is lt ready fits chunks most = elim (cases_lt (in_chunk s) (length bytes)) [
   | inl over ↦
-      let least : 1 ≤ room s = omega (arith, is.least) in
-      let times = mul-suc (room s) (suc c) in
-      let front = length-take (room s) bytes in
-      let back = length-drop (room s) bytes in
-      let both = length-append a.body (take (room s) bytes) in
-      arrives_more place k request bytes s a is lt ready (room_is (length (take (room s) bytes)) a (omega arith) (omega (arith, front, most))) (parts_more k request bytes s least over)
-      (λ p. arrives c p k request (drop (room s) bytes) (stepped s) (with_middle request (take (room s) bytes) s a) (stepped_is s is) lt (after_middle request (take (room s) bytes) s a ready)
+      let least : 1 ≤ in_chunk s = omega (arith, is.least) in
+      let times = mul-suc (in_chunk s) (suc c) in
+      let front = length-take (in_chunk s) bytes in
+      let back = length-drop (in_chunk s) bytes in
+      let both = length-append a.body (take (in_chunk s) bytes) in
+      arrives_more place k request bytes s a is lt ready (room_is (length (take (in_chunk s) bytes)) a (omega arith) (omega (arith, front, most))) (parts_more k request bytes s least over)
+      (λ p. arrives c p k request (drop (in_chunk s) bytes) (stepped s) (with_middle request (take (in_chunk s) bytes) s a) (stepped_is s is) lt (after_middle request (take (in_chunk s) bytes) s a ready)
       (omega (arith, times, back)) (omega arith) (omega (arith, front, back, both, most)))
   | inr le ↦ arrives_last place k request bytes s a is lt ready (room_is (length bytes) a (omega arith) most) (parts_last k request bytes s le)
 ]
@@ -218,10 +217,10 @@ limited_is n limit least = limited_by (limit == 0) n limit refl least
 pub record HasRoom (count : ℕ) (s : Sending) : Type 0 where
   pub chunks : ℕ
   pub few : suc chunks ≤ 64
-  pub room_is : count ≤ room s * suc chunks
+  pub room_is : count ≤ in_chunk s * suc chunks
   pub most : count ≤ 1048576
 
-has_room_by : (c count : ℕ) (s : Sending) → c ≡ limited 64 s.max_chunks → 1 ≤ c → c ≤ 64 → count ≤ room s * c → count ≤ 1048576 → HasRoom count s
+has_room_by : (c count : ℕ) (s : Sending) → c ≡ limited 64 s.max_chunks → 1 ≤ c → c ≤ 64 → count ≤ in_chunk s * c → count ≤ 1048576 → HasRoom count s
 has_room_by zero count s e least most fits small = absurd (omega arith)
 has_room_by (suc c) count s e least most fits small = record { chunks = c; few = most; room_is = fits; most = small }
 

@@ -9,8 +9,8 @@ use Rattle.ua_values.proofs.WrittenLemmas.{lawful, number_spelled, text_spelled}
 use Rattle.ua_chunks.specs.declared.greeting.Greeting.{Greeting}
 use Rattle.ua_chunks.specs.declared.opening.OpnHead.{OpnHead}
 use Rattle.ua_chunks.specs.Bodies.{KeepsGreeting, KeepsHello, KeepsOpnHead, error, error_at, greeting, greeting_at, hello, hello_at, opn_head, opn_head_at, opn_of, policy, policy_at, value_of, written_error, written_greeting, written_hello, written_opn_head}
-use Rattle.ua_chunks.specs.Sending.{Sending, none_policy, opn_head_of, opn_part}
-use Rattle.ua_chunks.specs.Arrival.{IsSending, opn_put}
+use Rattle.ua_chunks.specs.Sending.{IsSending, Sending, none_policy, opn_head_of, opn_part}
+use Rattle.ua_chunks.specs.Arrival.{opn_put}
 use Rattle.ua_chunks.proofs.BodyCodecs.{error_codec, greeting_codec, hello_codec, opn_head_codec, policy_codec}
 
 four : (n : ℕ) → n < 2 ^ 32 → number 4 n (little_bytes 4 n)

@@ -10,7 +10,7 @@ use Rattle.ua_chunks.specs.declared.frame.Kind.{Kind}
 use Rattle.ua_chunks.specs.declared.frame.Chunk.{Chunk}
 use Rattle.ua_chunks.specs.declared.frame.Chunk.TheVariants as chunk
 use Rattle.ua_chunks.specs.Streams.{start_bytes}
-use Rattle.ua_chunks.specs.Sending.{Sending, after_parts, message_parts, part, part_bytes, parts_bytes, parts_up_to, room, stepped, written_head}
+use Rattle.ua_chunks.specs.Sending.{Sending, after_parts, message_parts, part, part_bytes, parts_bytes, parts_up_to, in_chunk, stepped, written_head}
 
 pub head_long : (request : ℕ) (s : Sending) → length (written_head request s) ≡ 16
 head_long request s =
@@ -41,39 +41,39 @@ chunk_is to k c request bytes s =
 
 -- ---- the last chunk, or one before it
 
-last_by : (n : ℕ) (k : Kind) (request : ℕ) (bytes : List ℕ) (s : Sending) → length bytes ≤ room s → parts_up_to n k request bytes s ≡ part k chunk.Final request bytes s ∷ []
+last_by : (n : ℕ) (k : Kind) (request : ℕ) (bytes : List ℕ) (s : Sending) → length bytes ≤ in_chunk s → parts_up_to n k request bytes s ≡ part k chunk.Final request bytes s ∷ []
 last_by zero k request bytes s le = refl
-last_by (suc n) k request bytes s le = rw (le-ltb (room s) (length bytes) le) refl
+last_by (suc n) k request bytes s le = rw (le-ltb (in_chunk s) (length bytes) le) refl
 
-more_by : (n : ℕ) (k : Kind) (request : ℕ) (bytes : List ℕ) (s : Sending) → room s < length bytes
-    → parts_up_to (suc n) k request bytes s ≡ part k chunk.Middle request (take (room s) bytes) s ∷ parts_up_to n k request (drop (room s) bytes) (stepped s)
-more_by n k request bytes s lt = rw (lt-ltb (room s) (length bytes) lt) refl
+more_by : (n : ℕ) (k : Kind) (request : ℕ) (bytes : List ℕ) (s : Sending) → in_chunk s < length bytes
+    → parts_up_to (suc n) k request bytes s ≡ part k chunk.Middle request (take (in_chunk s) bytes) s ∷ parts_up_to n k request (drop (in_chunk s) bytes) (stepped s)
+more_by n k request bytes s lt = rw (lt-ltb (in_chunk s) (length bytes) lt) refl
 
-enough : (n m : ℕ) (k : Kind) (request : ℕ) (bytes : List ℕ) (s : Sending) → 1 ≤ room s → length bytes ≤ n → length bytes ≤ m → parts_up_to n k request bytes s ≡ parts_up_to m k request bytes s
+enough : (n m : ℕ) (k : Kind) (request : ℕ) (bytes : List ℕ) (s : Sending) → 1 ≤ in_chunk s → length bytes ≤ n → length bytes ≤ m → parts_up_to n k request bytes s ≡ parts_up_to m k request bytes s
 enough zero m k request bytes s least ln lm = sym (last_by m k request bytes s (omega arith))
 enough (suc n) zero k request bytes s least ln lm = last_by (suc n) k request bytes s (omega arith)
-enough (suc n) (suc m) k request bytes s least ln lm = elim (cases_lt (room s) (length bytes)) [
+enough (suc n) (suc m) k request bytes s least ln lm = elim (cases_lt (in_chunk s) (length bytes)) [
   | inl lt ↦
-      let less = length-drop (room s) bytes in
+      let less = length-drop (in_chunk s) bytes in
       more_by n k request bytes s lt
-      ∙ ap (λ parts. part k chunk.Middle request (take (room s) bytes) s ∷ parts) (enough n m k request (drop (room s) bytes) (stepped s) least (omega (arith, less)) (omega (arith, less)))
+      ∙ ap (λ parts. part k chunk.Middle request (take (in_chunk s) bytes) s ∷ parts) (enough n m k request (drop (in_chunk s) bytes) (stepped s) least (omega (arith, less)) (omega (arith, less)))
       ∙ sym (more_by m k request bytes s lt)
   | inr le ↦ last_by (suc n) k request bytes s le ∙ sym (last_by (suc m) k request bytes s le)
 ]
 
-pub parts_last : (k : Kind) (request : ℕ) (bytes : List ℕ) (s : Sending) → length bytes ≤ room s → message_parts k request bytes s ≡ part k chunk.Final request bytes s ∷ []
+pub parts_last : (k : Kind) (request : ℕ) (bytes : List ℕ) (s : Sending) → length bytes ≤ in_chunk s → message_parts k request bytes s ≡ part k chunk.Final request bytes s ∷ []
 unfolding message_parts
 parts_last k request bytes s le = last_by (length bytes) k request bytes s le
 
-pub parts_more : (k : Kind) (request : ℕ) (bytes : List ℕ) (s : Sending) → 1 ≤ room s → room s < length bytes
-    → message_parts k request bytes s ≡ part k chunk.Middle request (take (room s) bytes) s ∷ message_parts k request (drop (room s) bytes) (stepped s)
+pub parts_more : (k : Kind) (request : ℕ) (bytes : List ℕ) (s : Sending) → 1 ≤ in_chunk s → in_chunk s < length bytes
+    → message_parts k request bytes s ≡ part k chunk.Middle request (take (in_chunk s) bytes) s ∷ message_parts k request (drop (in_chunk s) bytes) (stepped s)
 unfolding message_parts
 parts_more k request [] s least lt = absurd (omega arith)
 parts_more k request (b ∷ bytes) s least lt =
-    let less = length-drop (room s) (b ∷ bytes) in
+    let less = length-drop (in_chunk s) (b ∷ bytes) in
     more_by (length bytes) k request (b ∷ bytes) s lt
-    ∙ ap (λ parts. part k chunk.Middle request (take (room s) (b ∷ bytes)) s ∷ parts)
-    (enough (length bytes) (length (drop (room s) (b ∷ bytes))) k request (drop (room s) (b ∷ bytes)) (stepped s) least (omega (arith, less)) (omega arith))
+    ∙ ap (λ parts. part k chunk.Middle request (take (in_chunk s) (b ∷ bytes)) s ∷ parts)
+    (enough (length bytes) (length (drop (in_chunk s) (b ∷ bytes))) k request (drop (in_chunk s) (b ∷ bytes)) (stepped s) least (omega (arith, less)) (omega arith))
 
 -- ---- one turn of the loop, and its end
 
@@ -81,18 +81,18 @@ pub record Steps (to : List ℕ) (k : Kind) (request : ℕ) (front back rest : L
   pub bytes : to ++ part_bytes (part k chunk.Middle request front s) ++ parts_bytes (message_parts k request back (record s { next = next })) ≡ to ++ parts_bytes (message_parts k request rest s)
   pub after : after_parts (message_parts k request back (record s { next = next })) (record s { next = next }) ≡ after_parts (message_parts k request rest s) s
 
-pub steps : (to : List ℕ) (k : Kind) (request : ℕ) (front back rest : List ℕ) (s : Sending) (next : ℕ) → 1 ≤ room s → room s < length rest
-    → front ≡ take (room s) rest → back ≡ drop (room s) rest → next ≡ after_chunk s.next → Steps to k request front back rest s next
+pub steps : (to : List ℕ) (k : Kind) (request : ℕ) (front back rest : List ℕ) (s : Sending) (next : ℕ) → 1 ≤ in_chunk s → in_chunk s < length rest
+    → front ≡ take (in_chunk s) rest → back ≡ drop (in_chunk s) rest → next ≡ after_chunk s.next → Steps to k request front back rest s next
 steps to k request front back rest s next least lt fronts backs nexts =
     let more = parts_more k request rest s least lt in
-    let same : message_parts k request back (record s { next = next }) ≡ message_parts k request (drop (room s) rest) (stepped s) = ap (λ (l : List ℕ). message_parts k request l (record s { next = next })) backs ∙ ap (λ (n : ℕ). message_parts k request (drop (room s) rest) (record s { next = n })) nexts in
+    let same : message_parts k request back (record s { next = next }) ≡ message_parts k request (drop (in_chunk s) rest) (stepped s) = ap (λ (l : List ℕ). message_parts k request l (record s { next = next })) backs ∙ ap (λ (n : ℕ). message_parts k request (drop (in_chunk s) rest) (record s { next = n })) nexts in
     record {
       bytes = append_assoc to (part_bytes (part k chunk.Middle request front s)) (parts_bytes (message_parts k request back (record s { next = next })))
           ∙ ap (λ (l : List ℕ). to ++ (part_bytes (part k chunk.Middle request l s) ++ parts_bytes (message_parts k request back (record s { next = next })))) fronts
-          ∙ ap (λ parts. to ++ (part_bytes (part k chunk.Middle request (take (room s) rest) s) ++ parts_bytes parts)) same
+          ∙ ap (λ parts. to ++ (part_bytes (part k chunk.Middle request (take (in_chunk s) rest) s) ++ parts_bytes parts)) same
           ∙ ap (λ parts. to ++ parts_bytes parts) (sym more);
       after = ap (λ parts. after_parts parts (record s { next = next })) same
-          ∙ ap (λ (n : ℕ). after_parts (message_parts k request (drop (room s) rest) (stepped s)) (record s { next = n })) nexts
+          ∙ ap (λ (n : ℕ). after_parts (message_parts k request (drop (in_chunk s) rest) (stepped s)) (record s { next = n })) nexts
           ∙ ap (λ parts. after_parts parts s) (sym more);
     }
 
@@ -100,7 +100,7 @@ pub record Stops (to : List ℕ) (k : Kind) (request : ℕ) (rest : List ℕ) (s
   pub bytes : to ++ part_bytes (part k chunk.Final request rest s) ≡ to ++ parts_bytes (message_parts k request rest s)
   pub after : stepped s ≡ after_parts (message_parts k request rest s) s
 
-pub stops : (to : List ℕ) (k : Kind) (request : ℕ) (rest : List ℕ) (s : Sending) → length rest ≤ room s → Stops to k request rest s
+pub stops : (to : List ℕ) (k : Kind) (request : ℕ) (rest : List ℕ) (s : Sending) → length rest ≤ in_chunk s → Stops to k request rest s
 stops to k request rest s le =
     let last = parts_last k request rest s le in
     record {

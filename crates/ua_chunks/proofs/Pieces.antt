@@ -1,11 +1,12 @@
 -- What a framer does with one piece after another.
 use Rattle.std.proofs.Common.{◌≡◌, ℕ, ◌+◌, ◌-◌, ◌%◌, ◌^◌, ◌≤◌, ◌<◌, List, [], ◌∷◌, ◌++◌, length, take, drop, Option, Some, None, refl, sym, ap, subst, ◌∙◌, append_assoc, arith}
 use Rattle.std.proofs.lemmas.List.{append-nil, length-append, length-take, take-append-le, take_all, drop_all}
+use Rattle.ua_chunks.specs.declared.frame.Frame.{Frame}
 use Rattle.ua_chunks.specs.declared.frame.Header.{Header}
 use Rattle.ua_chunks.specs.declared.frame.Stage.{Stage}
 use Rattle.ua_chunks.specs.declared.frame.Stage.TheVariants as stage
 use Rattle.ua_chunks.specs.Frames.{BreaksRule, Split, fault_in, fault_of, framed, header_of, moved, stage_of, unframed, with_first}
-use Rattle.ua_chunks.specs.Framing.{Awaits, Framing, IsSettled, IsSettledAt, after_feed, frames_of, held_of, holding, rest_of, split_of, with_split}
+use Rattle.ua_chunks.specs.Framing.{Awaits, Framing, Gains, IsSettled, IsSettledAt, after_feed, frames_of, held_of, holding, rest_of, split_of, with_split}
 use Rattle.ua_chunks.proofs.Stages.{short_is, whole_is, is_broken, broken_append, broken_is, whole_fits, broken_fits}
 use Rattle.ua_chunks.proofs.Splits.{IsOpen, cut, framed_open, framed_whole, joined}
 
@@ -235,3 +236,19 @@ small_by (stage.Whole h) s e is none = absurd is
 
 pub small : (s : Framing) → IsSettled s → fault_of s.held ≡ None → rest_of s < 65536
 small s is none = small_by (stage_of s.held) s refl is.1 none
+
+-- ---- what a list gains
+
+pub gains_none : (all before : List Frame) → Gains all before before all
+gains_none all before = record { front = []; after_is = sym (append-nil before); whole = refl }
+
+pub gains_more : (all before mid after left rest : List Frame) → Gains all before mid left → Gains left mid after rest → Gains all before after rest
+gains_more all before mid after left rest g h = record {
+  front = g.front ++ h.front;
+  after_is = h.after_is ∙ ap (λ l. l ++ h.front) g.after_is ∙ append_assoc before g.front h.front;
+  whole = g.whole ∙ ap (λ l. g.front ++ l) h.whole ∙ sym (append_assoc g.front h.front rest);
+}
+
+pub gains_all : (all before after rest : List Frame) → Gains all before after rest → rest ≡ [] → after ≡ before ++ all
+gains_all all before after rest g e =
+    g.after_is ∙ ap (λ l. before ++ l) (sym (g.whole ∙ ap (λ l. g.front ++ l) e ∙ append-nil g.front))

@@ -19,8 +19,8 @@ use Rattle.ua_chunks.specs.Frames.{framed, moved}
 use Rattle.ua_chunks.specs.Framing.{Brings, Framing, IsBetween, given, new_framing}
 use Rattle.ua_chunks.specs.Streams.{AreFrom, after_frames, all_bytes, frame_bytes}
 use Rattle.ua_chunks.specs.Assembly.{Assembly, Ended, after_frame, and_then, assembled, fault_after, first_fault, is_former, message_of, messages_of, new_assembly, renewed, takes_number, unless_faulty, with_fault, with_number}
-use Rattle.ua_chunks.specs.Sending.{MayPut, Part, Sending, after_parts, after_put, message_parts, new_sending, none_policy, opn_part, part, part_bytes, parts_bytes, parts_of, put_bytes, room, stepped, written_head}
-use Rattle.ua_chunks.specs.Arrival.{ArePut, InStep, IsPut, IsSending, Put, after_all, all_put, frames_put, message_put, placed}
+use Rattle.ua_chunks.specs.Sending.{IsSending, MayPut, Part, Sending, after_parts, after_put, message_parts, new_sending, none_policy, opn_part, part, part_bytes, parts_bytes, parts_of, put_bytes, in_chunk, stepped, written_head}
+use Rattle.ua_chunks.specs.Arrival.{ArePut, InStep, IsPut, Put, after_all, all_put, frames_put, message_put, placed}
 use Rattle.ua_chunks.proofs.Written.{frame_long, frames_again}
 use Rattle.ua_chunks.proofs.Streaming.{all_given, brings}
 use Rattle.ua_chunks.proofs.Chunking.{head_long, parts_last, parts_more}
@@ -61,23 +61,23 @@ from_append place (f ∷ xs) ys lt first second =
 
 -- ---- the parts of a message
 
-chunk_small : (request : ℕ) (bytes : List ℕ) (s : Sending) → IsSending s → length bytes ≤ room s → (k : Kind) → 8 + length (part k chunk.Final request bytes s).body ≤ s.size
+chunk_small : (request : ℕ) (bytes : List ℕ) (s : Sending) → IsSending s → length bytes ≤ in_chunk s → (k : Kind) → 8 + length (part k chunk.Final request bytes s).body ≤ s.size
 chunk_small request bytes s is le k = omega (arith, head_long request s, length-append (written_head request s) bytes, is.least)
 
-message_by : (c : ℕ) (request : ℕ) (bytes : List ℕ) (s : Sending) → IsSending s → length bytes ≤ room s * suc c → AllByRecursion (IsPart s.size) (message_parts kind.Msg request bytes s)
+message_by : (c : ℕ) (request : ℕ) (bytes : List ℕ) (s : Sending) → IsSending s → length bytes ≤ in_chunk s * suc c → AllByRecursion (IsPart s.size) (message_parts kind.Msg request bytes s)
 message_by zero request bytes s is fits =
-    let times = mul-suc (room s) 0 in
-    let le : length bytes ≤ room s = omega (arith, times) in
+    let times = mul-suc (in_chunk s) 0 in
+    let le : length bytes ≤ in_chunk s = omega (arith, times) in
     subst (AllByRecursion (IsPart s.size)) (sym (parts_last kind.Msg request bytes s le)) (record { chunk = inl refl; small = chunk_small request bytes s is le kind.Msg }, tt)
-message_by (suc c) request bytes s is fits = elim (cases_lt (room s) (length bytes)) [
+message_by (suc c) request bytes s is fits = elim (cases_lt (in_chunk s) (length bytes)) [
   | inl over ↦
-      let least : 1 ≤ room s = omega (arith, is.least) in
-      let times = mul-suc (room s) (suc c) in
-      let back = length-drop (room s) bytes in
-      let front = length-take (room s) bytes in
-      let small : 8 + length (part kind.Msg chunk.Middle request (take (room s) bytes) s).body ≤ s.size = chunk_small request (take (room s) bytes) s is (omega (arith, front)) kind.Msg in
+      let least : 1 ≤ in_chunk s = omega (arith, is.least) in
+      let times = mul-suc (in_chunk s) (suc c) in
+      let back = length-drop (in_chunk s) bytes in
+      let front = length-take (in_chunk s) bytes in
+      let small : 8 + length (part kind.Msg chunk.Middle request (take (in_chunk s) bytes) s).body ≤ s.size = chunk_small request (take (in_chunk s) bytes) s is (omega (arith, front)) kind.Msg in
       subst (AllByRecursion (IsPart s.size)) (sym (parts_more kind.Msg request bytes s least over))
-      (record { chunk = inl refl; small = small }, message_by c request (drop (room s) bytes) (stepped s) (stepped_is s is) (omega (arith, times, back)))
+      (record { chunk = inl refl; small = small }, message_by c request (drop (in_chunk s) bytes) (stepped s) (stepped_is s is) (omega (arith, times, back)))
   | inr le ↦ subst (AllByRecursion (IsPart s.size)) (sym (parts_last kind.Msg request bytes s le)) (record { chunk = inl refl; small = chunk_small request bytes s is le kind.Msg }, tt)
 ]
 
@@ -116,7 +116,7 @@ comes_message place request body s a is lt step room =
 comes_close : (place request : ℕ) (body : List ℕ) (s : Sending) (a : Assembly) → IsSending s → request < 2 ^ 32 → InStep s a → HasRoom (length body) s → length body ≤ 4096 → Comes place (put_of kind.Clo request body) s a
 comes_close place request body s a is lt step has short =
     let r = arrived place kind.Clo request body s a is lt step has in
-    let le : length body ≤ room s = omega (arith, is.least) in
+    let le : length body ≤ in_chunk s = omega (arith, is.least) in
     record {
       parts = subst (AllByRecursion (IsPart s.size)) (sym (parts_last kind.Clo request body s le)) (record { chunk = inr refl; small = chunk_small request body s is le kind.Clo }, tt);
       messages = r.messages ∙ ap (λ (l : List ℕ). record { request = request; body = l ++ body } ∷ []) step.body;

@@ -6,7 +6,6 @@ use Rattle.byteorder.specs.Endian.{little_number}
 use Rattle.ua_chunks.specs.declared.frame.Letters.{Letters}
 use Rattle.ua_chunks.specs.declared.frame.Header.{Header}
 use Rattle.ua_chunks.specs.declared.frame.Stage.TheVariants as stage
-use Rattle.ua_chunks.specs.declared.frame.TheConstants.{MOST_FRAME}
 use Rattle.ua_chunks.specs.Frames.{BreaksRule, header_of, judged_header, judged_stage, sized, stage_of, type_of}
 
 whole_same : (g h : Header) → stage.Whole g ≡ stage.Whole h → g ≡ h
@@ -110,10 +109,10 @@ size_by None n h e = absurd (no_header _ h e)
 size_by (Some l) n h e = elim (cases_lt n 8) [
   | inl lt ↦ absurd (no_header 0x80070000 h (sym (rw (lt-ltb n 8 lt) refl) ∙ e))
   | inr le ↦
-      elim (cases_lt MOST_FRAME n) [
-        | inl over ↦ absurd (no_header 0x80800000 h (sym (rw (le-ltb n 8 le, lt-ltb MOST_FRAME n over) refl) ∙ e))
+      elim (cases_lt 65536 n) [
+        | inl over ↦ absurd (no_header 0x80800000 h (sym (rw (le-ltb n 8 le, lt-ltb 65536 n over) refl) ∙ e))
         | inr most ↦
-            let is : ◌≡◌ {A = Result Header ℕ} (Ok (record { letters = l; size = n })) (Ok h) = sym (rw (le-ltb n 8 le, le-ltb MOST_FRAME n most) refl) ∙ e in
+            let is : ◌≡◌ {A = Result Header ℕ} (Ok (record { letters = l; size = n })) (Ok h) = sym (rw (le-ltb n 8 le, le-ltb 65536 n most) refl) ∙ e in
             let same : n ≡ h.size = ap (λ (x : Header). x.size) (same_header _ h is) in
             record { least = subst (λ (k : ℕ). 8 ≤ k) same le; most = subst (λ (k : ℕ). k ≤ 65536) same most }
       ]

@@ -1,5 +1,5 @@
 -- Frames as bytes, both ways.
-use Rattle.std.proofs.Common.{◌≡◌, ℕ, zero, suc, ◌+◌, ◌/◌, ◌%◌, ◌^◌, ◌≤◌, ◌<◌, List, [], ◌∷◌, ◌++◌, Bool, true, false, cond, length, take, drop, codes, All, Option, Some, None, Ok, ◌⊎◌, inl, inr, refl, sym, ap, subst, ◌∙◌, append_assoc, arith}
+use Rattle.std.proofs.Common.{◌≡◌, ℕ, zero, suc, ◌+◌, ◌/◌, ◌%◌, ◌^◌, ◌≤◌, ◌<◌, List, [], ◌∷◌, ◌++◌, Bool, true, false, cond, length, take, drop, All, Option, Some, None, Ok, ◌⊎◌, inl, inr, refl, sym, ap, subst, ◌∙◌, append_assoc, arith}
 use Rattle.std.proofs.lemmas.Bool.{cases_lt, lt-ltb, le-ltb}
 use Rattle.std.proofs.lemmas.List.{append-nil, length-append, length-drop, length-take, take-append-drop, take-take, take_at, drop_at}
 use Rattle.std.proofs.lemmas.List.Elements.{All-drop, All-take}
@@ -16,8 +16,7 @@ use Rattle.ua_chunks.specs.declared.frame.Header.{Header}
 use Rattle.ua_chunks.specs.declared.frame.Frame.{Frame}
 use Rattle.ua_chunks.specs.declared.frame.Stage.{Stage}
 use Rattle.ua_chunks.specs.declared.frame.Stage.TheVariants as stage
-use Rattle.ua_chunks.specs.declared.frame.TheConstants.{MOST_FRAME}
-use Rattle.ua_chunks.specs.Frames.{Split, frame_of, framed, header_of, judged_header, letter, letters, moved, of, stage_of, type_of, unframed, with_first}
+use Rattle.ua_chunks.specs.Frames.{Split, chunk_of, frame_of, framed, header_of, judged_header, kind_of, letter, letters, moved, of, stage_of, type_of, typed, typed_by, unframed, with_first}
 use Rattle.ua_chunks.specs.Streams.{AreFrom, IsFrame, IsFramed, after_frames, all_bytes, frame_bytes}
 use Rattle.ua_chunks.proofs.Stages.{IsWhole, is_whole, no_header, same_header, size_is, stage_short, whole_is}
 use Rattle.ua_chunks.proofs.Splits.{IsOpen, framed_open, framed_whole}
@@ -46,25 +45,44 @@ three_letters kind.Clo = refl
 pub four_long : (k : Kind) (c : Chunk) → length (four k c) ≡ 4
 four_long k c = omega (arith, one_letter c, three_letters k, length-append (letters k) (letter c))
 
-message_again : (c : Chunk) → type_of (four kind.Msg c) ≡ of kind.Msg c
-message_again chunk.Final = refl
-message_again chunk.Middle = refl
-message_again chunk.Abort = refl
+kind_again : (k : Kind) → kind_of (letters k) ≡ Some k
+kind_again kind.Hel = refl
+kind_again kind.Ack = refl
+kind_again kind.Err = refl
+kind_again kind.Opn = refl
+kind_again kind.Msg = refl
+kind_again kind.Clo = refl
 
-final_again : (k : Kind) → type_of (four k chunk.Final) ≡ of k chunk.Final
-final_again kind.Hel = refl
-final_again kind.Ack = refl
-final_again kind.Err = refl
-final_again kind.Opn = refl
-final_again kind.Msg = refl
-final_again kind.Clo = refl
+chunk_again : (c : Chunk) → chunk_of (letter c) ≡ Some c
+chunk_again chunk.Final = refl
+chunk_again chunk.Middle = refl
+chunk_again chunk.Abort = refl
+
+message_typed : (c : Chunk) → typed kind.Msg c ≡ of kind.Msg c
+message_typed c = refl
+
+final_typed : (k : Kind) → typed k chunk.Final ≡ of k chunk.Final
+final_typed kind.Hel = refl
+final_typed kind.Ack = refl
+final_typed kind.Err = refl
+final_typed kind.Opn = refl
+final_typed kind.Msg = refl
+final_typed kind.Clo = refl
+
+typed_again : (k : Kind) (c : Chunk) → IsAllowed k c → typed k c ≡ of k c
+typed_again k c (inl is) = subst (λ k. typed k c ≡ of k c) (sym is) (message_typed c)
+typed_again k c (inr is) = subst (λ c. typed k c ≡ of k c) (sym is) (final_typed k)
 
 type_again : (k : Kind) (c : Chunk) → IsAllowed k c → type_of (four k c) ≡ of k c
-type_again k c (inl is) = subst (λ k. type_of (four k c) ≡ of k c) (sym is) (message_again c)
-type_again k c (inr is) = subst (λ c. type_of (four k c) ≡ of k c) (sym is) (final_again k)
+type_again k c allowed =
+    ap (λ (l : List ℕ). typed_by (kind_of l) (chunk_of (drop 3 (four k c)))) (take_at (letters k) (letter c) 3 (three_letters k))
+    ∙ ap (λ (l : List ℕ). typed_by (kind_of (letters k)) (chunk_of l)) (drop_at (letters k) (letter c) 3 (three_letters k))
+    ∙ ap (λ o. typed_by o (chunk_of (letter c))) (kind_again k)
+    ∙ ap (λ o. typed_by (Some k) o) (chunk_again c)
+    ∙ typed_again k c allowed
 
 judged_good : (l : Letters) (n : ℕ) → 8 ≤ n → n ≤ 65536 → judged_header (Some l) n ≡ Ok (record { letters = l; size = n })
-judged_good l n least most = rw (le-ltb n 8 least, le-ltb MOST_FRAME n most) refl
+judged_good l n least most = rw (le-ltb n 8 least, le-ltb 65536 n most) refl
 
 size_again : (n : ℕ) → n < 2 ^ 32 → little_number 4 (little_bytes 4 n) ≡ n
 size_again n lt = ap (little_number 4) (sym (append-nil (little_bytes 4 n))) ∙ little_number-reads_back 4 n [] (omega arith)
@@ -133,33 +151,83 @@ frames_again place (f ∷ frames) more lt are =
 
 -- ---- the four letters of what was read
 
-pub record IsType (letters : List ℕ) (l : Letters) : Type 0 where
-  pub spelled : letters ≡ four l.kind l.chunk
+pub record IsType (bytes : List ℕ) (l : Letters) : Type 0 where
+  pub spelled : bytes ≡ four l.kind l.chunk
   pub allowed : IsAllowed l.kind l.chunk
 
-some_letters : (l m : Letters) → Some l ≡ Some m → l ≡ m
-some_letters l m e = cc
-
-one_type : (b : Bool) (letters : List ℕ) (k : Kind) (c : Chunk) (other : Option Letters) (l : Letters) → IsAllowed k c
-    → (b ≡ true → letters ≡ four k c) → (other ≡ Some l → IsType letters l) → cond b (of k c) other ≡ Some l → IsType letters l
-one_type true letters k c other l allowed is others e =
-    subst (IsType letters) (some_letters (record { kind = k; chunk = c }) l e) (record { spelled = is refl; allowed = allowed })
-one_type false letters k c other l allowed is others e = others e
+some_is : {A : Type 0} (x y : A) → Some x ≡ Some y → x ≡ y
+some_is x y e = cc
 
 same_bytes : (xs ys : List ℕ) → bytes_eq xs ys ≡ true → xs ≡ ys
 same_bytes xs ys e = (bytes_eq-Decides xs ys).0 e
 
-type_is : (bytes : List ℕ) (l : Letters) → type_of bytes ≡ Some l → IsType bytes l
-type_is bytes l e =
-    one_type _ bytes kind.Msg chunk.Final _ l (inl refl) (same_bytes bytes (codes "MSGF"))
-    (one_type _ bytes kind.Msg chunk.Middle _ l (inl refl) (same_bytes bytes (codes "MSGC"))
-    (one_type _ bytes kind.Msg chunk.Abort _ l (inl refl) (same_bytes bytes (codes "MSGA"))
-    (one_type _ bytes kind.Hel chunk.Final _ l (inr refl) (same_bytes bytes (codes "HELF"))
-    (one_type _ bytes kind.Ack chunk.Final _ l (inr refl) (same_bytes bytes (codes "ACKF"))
-    (one_type _ bytes kind.Err chunk.Final _ l (inr refl) (same_bytes bytes (codes "ERRF"))
-    (one_type _ bytes kind.Opn chunk.Final _ l (inr refl) (same_bytes bytes (codes "OPNF"))
-    (one_type _ bytes kind.Clo chunk.Final None l (inr refl) (same_bytes bytes (codes "CLOF")) (λ none. absurd cc))))))))
+-- one of several spellings, and the others
+one_by : {A : Type 0} (spells : A → List ℕ) (b : Bool) (bytes : List ℕ) (a : A) (other : Option A) (x : A)
+    → (b ≡ true → bytes ≡ spells a) → (other ≡ Some x → bytes ≡ spells x) → cond b (Some a) other ≡ Some x → bytes ≡ spells x
+one_by spells true bytes a other x is others e = is refl ∙ ap spells (some_is a x e)
+one_by spells false bytes a other x is others e = others e
+
+kind_is : (three : List ℕ) (k : Kind) → kind_of three ≡ Some k → three ≡ letters k
+kind_is three k e =
+    one_by letters _ three kind.Hel _ k (same_bytes three (letters kind.Hel))
+    (one_by letters _ three kind.Ack _ k (same_bytes three (letters kind.Ack))
+    (one_by letters _ three kind.Err _ k (same_bytes three (letters kind.Err))
+    (one_by letters _ three kind.Opn _ k (same_bytes three (letters kind.Opn))
+    (one_by letters _ three kind.Msg _ k (same_bytes three (letters kind.Msg))
+    (one_by letters _ three kind.Clo None k (same_bytes three (letters kind.Clo)) (λ none. absurd cc))))))
     e
+
+chunk_is : (one : List ℕ) (c : Chunk) → chunk_of one ≡ Some c → one ≡ letter c
+chunk_is one c e =
+    one_by letter _ one chunk.Final _ c (same_bytes one (letter chunk.Final))
+    (one_by letter _ one chunk.Middle _ c (same_bytes one (letter chunk.Middle))
+    (one_by letter _ one chunk.Abort None c (same_bytes one (letter chunk.Abort)) (λ none. absurd cc)))
+    e
+
+-- what is typed has these letters
+pub record IsTyped (k : Kind) (c : Chunk) (l : Letters) : Type 0 where
+  pub same : record { kind = k; chunk = c } ≡ l
+  pub allowed : IsAllowed k c
+
+final_only : (k : Kind) (c : Chunk) (l : Letters) → (k ≡ kind.Msg → ⊥) → typed k c ≡ Some l → IsTyped k c l
+final_only kind.Msg c l other e = absurd (other refl)
+final_only kind.Hel chunk.Final l other e = record { same = some_is _ l e; allowed = inr refl }
+final_only kind.Ack chunk.Final l other e = record { same = some_is _ l e; allowed = inr refl }
+final_only kind.Err chunk.Final l other e = record { same = some_is _ l e; allowed = inr refl }
+final_only kind.Opn chunk.Final l other e = record { same = some_is _ l e; allowed = inr refl }
+final_only kind.Clo chunk.Final l other e = record { same = some_is _ l e; allowed = inr refl }
+final_only kind.Hel chunk.Middle l other e = absurd cc
+final_only kind.Ack chunk.Middle l other e = absurd cc
+final_only kind.Err chunk.Middle l other e = absurd cc
+final_only kind.Opn chunk.Middle l other e = absurd cc
+final_only kind.Clo chunk.Middle l other e = absurd cc
+final_only kind.Hel chunk.Abort l other e = absurd cc
+final_only kind.Ack chunk.Abort l other e = absurd cc
+final_only kind.Err chunk.Abort l other e = absurd cc
+final_only kind.Opn chunk.Abort l other e = absurd cc
+final_only kind.Clo chunk.Abort l other e = absurd cc
+
+typed_is : (k : Kind) (c : Chunk) (l : Letters) → typed k c ≡ Some l → IsTyped k c l
+typed_is kind.Msg c l e = record { same = some_is _ l e; allowed = inl refl }
+typed_is kind.Hel c l e = final_only kind.Hel c l (λ is. cc) e
+typed_is kind.Ack c l e = final_only kind.Ack c l (λ is. cc) e
+typed_is kind.Err c l e = final_only kind.Err c l (λ is. cc) e
+typed_is kind.Opn c l e = final_only kind.Opn c l (λ is. cc) e
+typed_is kind.Clo c l e = final_only kind.Clo c l (λ is. cc) e
+
+type_by : (o : Option Kind) (p : Option Chunk) (bytes : List ℕ) (l : Letters) → kind_of (take 3 bytes) ≡ o → chunk_of (drop 3 bytes) ≡ p
+    → typed_by o p ≡ Some l → IsType bytes l
+type_by None p bytes l ek ec e = absurd cc
+type_by (Some k) None bytes l ek ec e = absurd cc
+type_by (Some k) (Some c) bytes l ek ec e =
+    let t = typed_is k c l e in
+    subst (IsType bytes) t.same (record {
+      spelled = sym (take-append-drop 3 bytes) ∙ ap (λ (x : List ℕ). x ++ drop 3 bytes) (kind_is (take 3 bytes) k ek) ∙ ap (λ (x : List ℕ). letters k ++ x) (chunk_is (drop 3 bytes) c ec);
+      allowed = t.allowed;
+    })
+
+type_is : (bytes : List ℕ) (l : Letters) → type_of bytes ≡ Some l → IsType bytes l
+type_is bytes l e = type_by (kind_of (take 3 bytes)) (chunk_of (drop 3 bytes)) bytes l refl refl e
 
 -- ---- the size of what was read
 
@@ -193,8 +261,8 @@ some_header None n h e = absurd cc
 some_header (Some l) n h e = elim (cases_lt n 8) [
   | inl lt ↦ absurd (no_header 0x80070000 h (sym (rw (lt-ltb n 8 lt) refl) ∙ e))
   | inr le ↦
-      elim (cases_lt MOST_FRAME n) [
-        | inl over ↦ absurd (no_header 0x80800000 h (sym (rw (le-ltb n 8 le, lt-ltb MOST_FRAME n over) refl) ∙ e))
+      elim (cases_lt 65536 n) [
+        | inl over ↦ absurd (no_header 0x80800000 h (sym (rw (le-ltb n 8 le, lt-ltb 65536 n over) refl) ∙ e))
         | inr most ↦
             let same = same_header (record { letters = l; size = n }) h (sym (judged_good l n le most) ∙ e) in
             (ap (λ (x : Header). Some x.letters) same, ap (λ (x : Header). x.size) same)

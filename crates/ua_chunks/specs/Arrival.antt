@@ -54,14 +54,6 @@ ArePut (m ∷ messages) s = IsPut m s × ArePut messages (after_put m.kind m.req
 
 -- ---- the two ends
 
--- what is so of each sender
-pub record IsSending (s : Sending) : Type 0 where
-  pub channel : s.channel < 2 ^ 32
-  pub token : s.token < 2 ^ 32
-  pub least : 8192 ≤ s.size
-  pub most : s.size ≤ 65536
-  pub next : s.next ≤ 4294966272
-
 -- the assembler takes the sender's channel, token and next number, no message was begun, and there was no fault
 pub record InStep (s : Sending) (a : Assembly) : Type 0 where
   pub channel : a.channel ≡ s.channel

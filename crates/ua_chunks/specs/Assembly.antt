@@ -1,6 +1,7 @@
 -- What an assembler makes of the chunks of a secure channel (OPC 10000-6, 6.7.2 and 6.7.3).
-use Rattle.std.specs.Prelude.{◌≡◌, ℕ, ◌+◌, ◌-◌, ◌==◌, ◌&&◌, ◌||◌, not, nat_lt, nat_le, List, [], ◌∷◌, ◌++◌, length, drop, Bool, true, false, Option, Some, None, Result, Ok, Err, if◌then◌else◌}
+use Rattle.std.specs.Prelude.{◌≡◌, ◌≤◌, ◌<◌, ◌^◌, ℕ, ◌+◌, ◌-◌, ◌==◌, ◌&&◌, ◌||◌, not, nat_lt, nat_le, List, [], ◌∷◌, ◌++◌, length, drop, Bool, true, false, Option, Some, None, Result, Ok, Err, if◌then◌else◌}
 use Rattle.byteorder.specs.Endian.{little_number}
+use Rattle.ua_base.specs.Status.{bad_decoding_error, bad_secure_channel_token_unknown, bad_sequence_number_invalid, bad_tcp_message_too_large, bad_tcp_secure_channel_unknown}
 use Rattle.ua_chunks.specs.declared.frame.Chunk.{Chunk}
 use Rattle.ua_chunks.specs.declared.frame.Chunk.TheVariants as chunk
 use Rattle.ua_chunks.specs.declared.frame.Frame.{Frame}
@@ -9,7 +10,6 @@ use Rattle.ua_chunks.specs.declared.frame.FrameFault.TheVariants as faults
 use Rattle.ua_chunks.specs.declared.message.ChunkHead.{ChunkHead}
 use Rattle.ua_chunks.specs.declared.message.Message.{Message}
 use Rattle.ua_chunks.specs.declared.message.MessageFault.{MessageFault}
-use Rattle.ua_chunks.specs.declared.message.TheConstants.{MOST_CHUNKS, MOST_MESSAGE}
 
 -- the channel and its token, and the token before it, which is taken until a chunk with the newer one came; the number
 -- of the last chunk; how many chunks of a message came, its request and its bytes so far; the fault that ended it all
@@ -31,6 +31,13 @@ new_assembly channel token =
 abbrev pub renewed : ℕ → ℕ → Assembly → Assembly
 renewed channel token s =
     record s { channel = channel; token = token; former = if channel == s.channel then Some s.token else None }
+
+-- what is so of each assembler
+pub record IsAssembly (s : Assembly) : Type 0 where
+  pub channel : s.channel < 2 ^ 32
+  pub token : s.token < 2 ^ 32
+  pub chunks : s.chunks ≤ 64
+  pub body : length s.body ≤ 1048576
 
 -- ---- the rules, in their order
 
@@ -61,21 +68,21 @@ takes_request request s = s.chunks == 0 || request == s.request
 
 -- a message has 64 chunks at most, and so many bytes
 abbrev pub has_room : ℕ → Assembly → Bool
-has_room count s = nat_lt s.chunks MOST_CHUNKS && nat_le (length s.body + count) MOST_MESSAGE
+has_room count s = nat_lt s.chunks 64 && nat_le (length s.body + count) 1048576
 
 -- the code of the first rule that a chunk with so many bytes breaks
 abbrev pub refusal_of : ChunkHead → ℕ → Assembly → Option ℕ
 refusal_of h count s =
-    if not (h.channel == s.channel) then Some 0x807F0000
-    else if not (takes_token h.token s) then Some 0x80870000
-    else if not (takes_number h.number s.last) then Some 0x80880000
-    else if not (takes_request h.request s) then Some 0x80070000
-    else if not (has_room count s) then Some 0x80800000
+    if not (h.channel == s.channel) then Some bad_tcp_secure_channel_unknown
+    else if not (takes_token h.token s) then Some bad_secure_channel_token_unknown
+    else if not (takes_number h.number s.last) then Some bad_sequence_number_invalid
+    else if not (takes_request h.request s) then Some bad_decoding_error
+    else if not (has_room count s) then Some bad_tcp_message_too_large
     else None
 
 abbrev pub refusal : List ℕ → Assembly → Option ℕ
 refusal body s =
-    if nat_lt (length body) 16 then Some 0x80070000
+    if nat_lt (length body) 16 then Some bad_decoding_error
     else refusal_of (head_of body) (length body - 16) s
 
 abbrev pub at_place : ℕ → Option ℕ → Option MessageFault
@@ -140,7 +147,7 @@ with_number number s = record s { last = Some number }
 abbrev pub TakesNumber : {A : Type 0} → Result A FrameFault → ℕ → ℕ → Assembly → Assembly → Type 0
 TakesNumber (Ok u) place number old new = (takes_number number old.last ≡ true) × (new ≡ with_number number old)
 TakesNumber (Err (faults.Bad at code)) place number old new =
-    (takes_number number old.last ≡ false) × (at ≡ place) × (code ≡ 0x80880000) × (new ≡ old)
+    (takes_number number old.last ≡ false) × (at ≡ place) × (code ≡ bad_sequence_number_invalid) × (new ≡ old)
 TakesNumber (Err faults.OutOfMemory) place number old new = ⊥
 
 -- ---- any frames

@@ -1,6 +1,7 @@
 -- What stands in the frames HEL, ACK, ERR and OPN (OPC 10000-6, 7.1.2.3 to 7.1.2.5, and 6.7.2.3), each field a part of a spelling.
 use Rattle.std.specs.Prelude.{◌≡◌, ◌≤◌, ◌<◌, ℕ, ◌^◌, List, [], ◌∷◌, ◌++◌, length, drop, take, Option, None, Result, Ok, Err, ◌⊎◌}
 use Rattle.byteorder.specs.Endian.{little_bytes}
+use Rattle.ua_base.specs.Status.{bad_decoding_error}
 use Rattle.ua_values.specs.declared.fault.ValueFault.{ValueFault}
 use Rattle.ua_values.specs.declared.fault.ValueFault.TheVariants as faults
 use Rattle.ua_values.specs.Reading.{Input, Reader, Fault, Bad, Fails, ◌>>=◌, give, number_at}
@@ -95,7 +96,7 @@ opn_head_at = do
 -- nothing may be left
 abbrev pub ended : List ℕ → Reader (Unit {0})
 ended [] from = Ok (tt, from)
-ended (byte ∷ more) from = Err (Bad from.place 0x80070000)
+ended (byte ∷ more) from = Err (Bad from.place bad_decoding_error)
 
 abbrev pub end_at : Reader (Unit {0})
 end_at from = ended from.rest from
@@ -133,7 +134,7 @@ pub record IsLeftOver {A : Type 0} (spells : A → List ℕ → Type 0) (bytes :
   pub value : A
   pub spelled : spells value (take place bytes)
   pub within : place < length bytes
-  pub code_is : code ≡ 0x80070000
+  pub code_is : code ≡ bad_decoding_error
 
 -- the bytes are the value's spelling; or why they are none
 abbrev pub IsWhole : {A : Type 0} → (A → List ℕ → Type 0) → List ℕ → Result A ValueFault → Type 0

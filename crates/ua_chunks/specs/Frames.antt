@@ -2,6 +2,7 @@
 use Rattle.std.specs.Prelude.{◌≡◌, ◌≤◌, ℕ, zero, suc, ◌+◌, ◌-◌, ◌%◌, ◌^◌, nat_lt, List, [], ◌∷◌, length, take, drop, codes, Option, Some, None, Result, Ok, Err, if◌then◌else◌}
 use Rattle.std.specs.Str.{bytes_eq}
 use Rattle.byteorder.specs.Endian.{little_number}
+use Rattle.ua_base.specs.Status.{bad_decoding_error, bad_tcp_message_too_large, bad_tcp_message_type_invalid}
 use Rattle.ua_chunks.specs.declared.frame.Kind.{Kind}
 use Rattle.ua_chunks.specs.declared.frame.Kind.TheVariants as kind
 use Rattle.ua_chunks.specs.declared.frame.Chunk.{Chunk}
@@ -11,7 +12,6 @@ use Rattle.ua_chunks.specs.declared.frame.Header.{Header}
 use Rattle.ua_chunks.specs.declared.frame.Frame.{Frame}
 use Rattle.ua_chunks.specs.declared.frame.Stage.{Stage}
 use Rattle.ua_chunks.specs.declared.frame.Stage.TheVariants as stage
-use Rattle.ua_chunks.specs.declared.frame.TheConstants.{MOST_FRAME}
 
 -- ---- the header
 
@@ -31,25 +31,45 @@ letter chunk.Abort = codes "A"
 abbrev pub of : Kind → Chunk → Option Letters
 of k c = Some (record { kind = k; chunk = c })
 
--- only a MSG may be in several chunks
-abbrev pub type_of : List ℕ → Option Letters
-type_of four =
-    if bytes_eq four (codes "MSGF") then of kind.Msg chunk.Final
-    else if bytes_eq four (codes "MSGC") then of kind.Msg chunk.Middle
-    else if bytes_eq four (codes "MSGA") then of kind.Msg chunk.Abort
-    else if bytes_eq four (codes "HELF") then of kind.Hel chunk.Final
-    else if bytes_eq four (codes "ACKF") then of kind.Ack chunk.Final
-    else if bytes_eq four (codes "ERRF") then of kind.Err chunk.Final
-    else if bytes_eq four (codes "OPNF") then of kind.Opn chunk.Final
-    else if bytes_eq four (codes "CLOF") then of kind.Clo chunk.Final
+-- the kind that three letters say
+abbrev pub kind_of : List ℕ → Option Kind
+kind_of three =
+    if bytes_eq three (letters kind.Hel) then Some kind.Hel
+    else if bytes_eq three (letters kind.Ack) then Some kind.Ack
+    else if bytes_eq three (letters kind.Err) then Some kind.Err
+    else if bytes_eq three (letters kind.Opn) then Some kind.Opn
+    else if bytes_eq three (letters kind.Msg) then Some kind.Msg
+    else if bytes_eq three (letters kind.Clo) then Some kind.Clo
     else None
+
+-- the part of a message that one letter says
+abbrev pub chunk_of : List ℕ → Option Chunk
+chunk_of one =
+    if bytes_eq one (letter chunk.Final) then Some chunk.Final
+    else if bytes_eq one (letter chunk.Middle) then Some chunk.Middle
+    else if bytes_eq one (letter chunk.Abort) then Some chunk.Abort
+    else None
+
+-- only a MSG may be in several chunks
+abbrev pub typed : Kind → Chunk → Option Letters
+typed kind.Msg c = of kind.Msg c
+typed k chunk.Final = of k chunk.Final
+typed k c = None
+
+abbrev pub typed_by : Option Kind → Option Chunk → Option Letters
+typed_by None c = None
+typed_by (Some k) None = None
+typed_by (Some k) (Some c) = typed k c
+
+abbrev pub type_of : List ℕ → Option Letters
+type_of four = typed_by (kind_of (take 3 four)) (chunk_of (drop 3 four))
 
 -- the rules in their order: letters, a size of eight at least, and one of 65,536 at most
 abbrev pub judged_header : Option Letters → ℕ → Result Header ℕ
-judged_header None size = Err 0x807E0000
+judged_header None size = Err bad_tcp_message_type_invalid
 judged_header (Some l) size =
-    if nat_lt size 8 then Err 0x80070000
-    else if nat_lt MOST_FRAME size then Err 0x80800000
+    if nat_lt size 8 then Err bad_decoding_error
+    else if nat_lt 65536 size then Err bad_tcp_message_too_large
     else Ok (record { letters = l; size = size })
 
 -- four letters and a size, the lowest byte first

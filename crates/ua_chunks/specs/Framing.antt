@@ -45,10 +45,14 @@ after_feed bytes s = with_split (split_of bytes s) s
 unfoldable pub frames_of : List ℕ → Framing → List Frame
 frames_of bytes s = (split_of bytes s).frames
 
--- frames, and maybe more, are all
-pub record IsFrontOf (frames all : List Frame) : Type 0 where
-  pub lost : List Frame
-  pub whole : all ≡ frames ++ lost
+-- a list that gained a front of these frames behind what it had, all of them but `lost`
+pub record Gains (frames before after lost : List Frame) : Type 0 where
+  pub front : List Frame
+  pub after_is : after ≡ before ++ front
+  pub whole : frames ≡ front ++ lost
+
+abbrev pub GainsFront : List Frame → List Frame → List Frame → Type 0
+GainsFront frames before after = (lost : List Frame) × Gains frames before after lost
 
 -- what a call answers of a framer that was `old`, with the list of frames before and after it
 abbrev pub Feeds : {A : Type 0} → Result A FrameFault → Framing → List ℕ → Framing → List Frame → List Frame → Type 0
@@ -58,7 +62,7 @@ Feeds (Err (faults.Bad place code)) old bytes new before after =
     (old.failed ≡ false) × (new ≡ after_feed bytes old) × (fault_of new.held ≡ Some code) × (new.place ≡ place)
     × (after ≡ before ++ frames_of bytes old)
 Feeds (Err faults.OutOfMemory) old bytes new before after =
-    (new.failed ≡ true) × IsFrontOf after (before ++ frames_of bytes old) × (old.failed ≡ true → after ≡ before)
+    (new.failed ≡ true) × GainsFront (frames_of bytes old) before after × (old.failed ≡ true → after ≡ before)
 
 -- ---- what holds between calls
 
@@ -116,8 +120,8 @@ Fits count (stage.Waits n) = count ≤ n
 Fits count (stage.Breaks code) = Unit {0}
 Fits count (stage.Whole h) = Unit {0}
 
--- the fault that the held bytes show
-abbrev pub Shows : {A : Type 0} → Result A FrameFault → Framing → Type 0
-Shows (Ok u) s = fault_of s.held ≡ None
-Shows (Err (faults.Bad place code)) s = (fault_of s.held ≡ Some code) × (s.place ≡ place)
-Shows (Err faults.OutOfMemory) s = ⊥
+-- the fault that the held bytes have
+abbrev pub TellsFault : {A : Type 0} → Result A FrameFault → Framing → Type 0
+TellsFault (Ok u) s = fault_of s.held ≡ None
+TellsFault (Err (faults.Bad place code)) s = (fault_of s.held ≡ Some code) × (s.place ≡ place)
+TellsFault (Err faults.OutOfMemory) s = ⊥

@@ -1,5 +1,5 @@
 -- What a sender makes of messages: chunks of a secure channel (OPC 10000-6, 6.7.2).
-use Rattle.std.specs.Prelude.{◌≡◌, ◌≤◌, ◌<◌, ℕ, zero, suc, ◌-◌, ◌*◌, ◌==◌, nat_lt, min, List, [], ◌∷◌, ◌++◌, length, take, drop, codes, Some, None, Result, Ok, Err, if◌then◌else◌}
+use Rattle.std.specs.Prelude.{◌≡◌, ◌≤◌, ◌<◌, ◌^◌, ℕ, zero, suc, ◌-◌, ◌*◌, ◌==◌, nat_lt, min, List, [], ◌∷◌, ◌++◌, length, take, drop, codes, Some, None, Result, Ok, Err, if◌then◌else◌}
 use Rattle.std.specs.List.{flat_map}
 use Rattle.byteorder.specs.Endian.{little_bytes}
 use Rattle.ua_base.specs.Number.{after_chunk}
@@ -7,8 +7,6 @@ use Rattle.ua_chunks.specs.declared.frame.Kind.{Kind}
 use Rattle.ua_chunks.specs.declared.frame.Kind.TheVariants as kind
 use Rattle.ua_chunks.specs.declared.frame.Chunk.{Chunk}
 use Rattle.ua_chunks.specs.declared.frame.Chunk.TheVariants as chunk
-use Rattle.ua_chunks.specs.declared.frame.TheConstants.{MOST_FRAME}
-use Rattle.ua_chunks.specs.declared.message.TheConstants.{MOST_CHUNKS, MOST_MESSAGE}
 use Rattle.ua_chunks.specs.declared.opening.OpnHead.{OpnHead}
 use Rattle.ua_chunks.specs.declared.sender.PutFault.{PutFault}
 use Rattle.ua_chunks.specs.declared.sender.PutFault.TheVariants as faults
@@ -29,11 +27,23 @@ abbrev pub new_sending : ℕ → ℕ → ℕ → ℕ → ℕ → Sending
 new_sending channel token size max_message max_chunks = record {
   channel = channel;
   token = token;
-  size = min size MOST_FRAME;
+  size = min size 65536;
   max_message = max_message;
   max_chunks = max_chunks;
   next = 1;
 }
+
+-- the limits of the other end, where they come later: the numbers go on
+abbrev pub with_limits : ℕ → ℕ → ℕ → Sending → Sending
+with_limits size max_message max_chunks s = record s { size = min size 65536; max_message = max_message; max_chunks = max_chunks }
+
+-- what is so of each sender
+pub record IsSending (s : Sending) : Type 0 where
+  pub channel : s.channel < 2 ^ 32
+  pub token : s.token < 2 ^ 32
+  pub least : 8192 ≤ s.size
+  pub most : s.size ≤ 65536
+  pub next : s.next ≤ 4294966272
 
 -- ---- how much a message may have
 
@@ -42,11 +52,11 @@ abbrev pub limited : ℕ → ℕ → ℕ
 limited n limit = if limit == 0 then n else min n limit
 
 -- how many bytes of a message stand in a chunk: the frame's header has 8 and the chunk's 16
-abbrev pub room : Sending → ℕ
-room s = s.size - 24
+abbrev pub in_chunk : Sending → ℕ
+in_chunk s = s.size - 24
 
 abbrev pub limit_of : Sending → ℕ
-limit_of s = min (limited MOST_MESSAGE s.max_message) (room s * limited MOST_CHUNKS s.max_chunks)
+limit_of s = min (limited 1048576 s.max_message) (in_chunk s * limited 64 s.max_chunks)
 
 -- ---- the chunks of a message
 
@@ -70,8 +80,8 @@ part k c request bytes s = record { kind = k; chunk = c; body = written_head req
 abbrev pub parts_up_to : ℕ → Kind → ℕ → List ℕ → Sending → List Part
 parts_up_to zero k request bytes s = part k chunk.Final request bytes s ∷ []
 parts_up_to (suc n) k request bytes s =
-    if nat_lt (room s) (length bytes) then
-    part k chunk.Middle request (take (room s) bytes) s ∷ parts_up_to n k request (drop (room s) bytes) (stepped s)
+    if nat_lt (in_chunk s) (length bytes) then
+    part k chunk.Middle request (take (in_chunk s) bytes) s ∷ parts_up_to n k request (drop (in_chunk s) bytes) (stepped s)
     else part k chunk.Final request bytes s ∷ []
 
 -- each chunk has a byte at least, if there are several

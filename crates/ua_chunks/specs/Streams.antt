@@ -7,7 +7,6 @@ use Rattle.ua_chunks.specs.declared.frame.Kind.TheVariants as kind
 use Rattle.ua_chunks.specs.declared.frame.Chunk.{Chunk}
 use Rattle.ua_chunks.specs.declared.frame.Chunk.TheVariants as chunk
 use Rattle.ua_chunks.specs.declared.frame.Frame.{Frame}
-use Rattle.ua_chunks.specs.declared.frame.TheConstants.{MOST_FRAME}
 use Rattle.ua_chunks.specs.Frames.{Split, letter, letters, moved}
 
 -- three letters, the chunk's letter, and the size of the whole as four bytes, the lowest first
@@ -23,7 +22,7 @@ frame_bytes f = chunk_bytes f.kind f.chunk f.body
 -- only a MSG may be in several chunks, and a frame has 65,536 bytes at most
 pub record IsFrame (f : Frame) : Type 0 where
   pub chunk : (f.kind ≡ kind.Msg) ⊎ (f.chunk ≡ chunk.Final)
-  pub size : 8 + length f.body ≤ MOST_FRAME
+  pub size : 8 + length f.body ≤ 65536
 
 -- they stand one after the other, from a place of the stream on
 abbrev pub AreFrom : ℕ → List Frame → Type 0

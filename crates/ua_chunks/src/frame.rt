@@ -1,5 +1,5 @@
 ghost use Rattle.std.specs.Prelude.{◌≡◌, ◌≤◌, length, take};
-ghost use Rattle.ua_chunks.specs.Frames.{header_of, judged_header, sized, stage_of, type_of};
+ghost use Rattle.ua_chunks.specs.Frames.{chunk_of, header_of, judged_header, kind_of, letter, letters, sized, stage_of, type_of, typed};
 
 use crate::body::Body;
 use byteorder::{ByteOrder, LittleEndian};
@@ -34,6 +34,43 @@ pub enum Kind {
     Clo,
 }
 
+impl Kind {
+    /// The three letters.
+    pub(crate) fn letters(self) -> &'static str
+        ensures { result.now ≡ letters self }
+    {
+        match self {
+            Kind::Hel => "HEL",
+            Kind::Ack => "ACK",
+            Kind::Err => "ERR",
+            Kind::Opn => "OPN",
+            Kind::Msg => "MSG",
+            Kind::Clo => "CLO",
+        }
+    }
+
+    /// The kind that three letters say.
+    fn of(three: &[u8]) -> Option<Kind>
+        ensures { result ≡ kind_of three.now }
+    {
+        if three == Kind::Hel.letters().as_bytes() {
+            Some(Kind::Hel)
+        } else if three == Kind::Ack.letters().as_bytes() {
+            Some(Kind::Ack)
+        } else if three == Kind::Err.letters().as_bytes() {
+            Some(Kind::Err)
+        } else if three == Kind::Opn.letters().as_bytes() {
+            Some(Kind::Opn)
+        } else if three == Kind::Msg.letters().as_bytes() {
+            Some(Kind::Msg)
+        } else if three == Kind::Clo.letters().as_bytes() {
+            Some(Kind::Clo)
+        } else {
+            None
+        }
+    }
+}
+
 impl fmt::Display for Kind {
     ghost use Rattle.std.specs.Prelude.{Some};
     ghost use Rattle.ua_chunks.specs.Frames.{letters};
@@ -41,14 +78,7 @@ impl fmt::Display for Kind {
     ghost output = { λ k. Some (letters k) };
 
     fn fmt<W: fmt::Write>(&self, f: &mut fmt::Formatter<W>) -> fmt::Result {
-        f.write_str(match self {
-            Kind::Hel => "HEL",
-            Kind::Ack => "ACK",
-            Kind::Err => "ERR",
-            Kind::Opn => "OPN",
-            Kind::Msg => "MSG",
-            Kind::Clo => "CLO",
-        })
+        f.write_str(self.letters())
     }
 }
 
@@ -63,6 +93,34 @@ pub enum Chunk {
     Abort,
 }
 
+impl Chunk {
+    /// The fourth letter.
+    pub(crate) fn letter(self) -> &'static str
+        ensures { result.now ≡ letter self }
+    {
+        match self {
+            Chunk::Final => "F",
+            Chunk::Middle => "C",
+            Chunk::Abort => "A",
+        }
+    }
+
+    /// The part of a message that one letter says.
+    fn of(one: &[u8]) -> Option<Chunk>
+        ensures { result ≡ chunk_of one.now }
+    {
+        if one == Chunk::Final.letter().as_bytes() {
+            Some(Chunk::Final)
+        } else if one == Chunk::Middle.letter().as_bytes() {
+            Some(Chunk::Middle)
+        } else if one == Chunk::Abort.letter().as_bytes() {
+            Some(Chunk::Abort)
+        } else {
+            None
+        }
+    }
+}
+
 impl fmt::Display for Chunk {
     ghost use Rattle.std.specs.Prelude.{Some};
     ghost use Rattle.ua_chunks.specs.Frames.{letter};
@@ -70,11 +128,7 @@ impl fmt::Display for Chunk {
     ghost output = { λ c. Some (letter c) };
 
     fn fmt<W: fmt::Write>(&self, f: &mut fmt::Formatter<W>) -> fmt::Result {
-        f.write_str(match self {
-            Chunk::Final => "F",
-            Chunk::Middle => "C",
-            Chunk::Abort => "A",
-        })
+        f.write_str(self.letter())
     }
 }
 
@@ -120,30 +174,26 @@ pub(crate) struct Letters {
 }
 
 impl Letters {
-    /// The eight types of a frame: only a MSG may be in several chunks.
-    fn of(letters: &[u8]) -> Option<Letters>
-        ensures { result ≡ type_of letters.now }
+    /// What four letters say, if they are those of a frame.
+    fn of(four: &[u8]) -> Option<Letters>
+        requires { length four.now ≡ 4 }
+        ensures { result ≡ type_of four.now }
     {
-        let (kind, chunk) = if letters == b"MSGF".as_slice() {
-            (Kind::Msg, Chunk::Final)
-        } else if letters == b"MSGC".as_slice() {
-            (Kind::Msg, Chunk::Middle)
-        } else if letters == b"MSGA".as_slice() {
-            (Kind::Msg, Chunk::Abort)
-        } else if letters == b"HELF".as_slice() {
-            (Kind::Hel, Chunk::Final)
-        } else if letters == b"ACKF".as_slice() {
-            (Kind::Ack, Chunk::Final)
-        } else if letters == b"ERRF".as_slice() {
-            (Kind::Err, Chunk::Final)
-        } else if letters == b"OPNF".as_slice() {
-            (Kind::Opn, Chunk::Final)
-        } else if letters == b"CLOF".as_slice() {
-            (Kind::Clo, Chunk::Final)
-        } else {
-            return None;
-        };
-        Some(Letters { kind, chunk })
+        let (three, one) = four.split_at(3);
+        match (Kind::of(three), Chunk::of(one)) {
+            (Some(kind), Some(chunk)) => Letters::typed(kind, chunk),
+            _ => None,
+        }
+    }
+
+    /// Only a MSG may be in several chunks.
+    fn typed(kind: Kind, chunk: Chunk) -> Option<Letters>
+        ensures { result ≡ typed kind chunk }
+    {
+        match (kind, chunk) {
+            (Kind::Msg, _) | (_, Chunk::Final) => Some(Letters { kind, chunk }),
+            _ => None,
+        }
     }
 }
 

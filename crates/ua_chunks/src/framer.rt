@@ -1,6 +1,6 @@
-ghost use Rattle.std.specs.Prelude.{[], ◌∷◌, ◌≡◌, ◌<◌, ◌≤◌, ◌++◌, length, IfOk, None, OnErr, OnOk};
+ghost use Rattle.std.specs.Prelude.{[], ◌∷◌, ◌≡◌, ◌<◌, ◌≤◌, ◌^◌, ◌++◌, length, IfOk, None, OnErr, OnOk};
 ghost use Rattle.ua_chunks.specs.Frames.{fault_of, frame_at, moved, stage_of};
-ghost use Rattle.ua_chunks.specs.Framing.{Awaits, Feeds, Fits, IsFrontOf, Shows, after_feed, frames_of, new_framing, rest_of};
+ghost use Rattle.ua_chunks.specs.Framing.{Awaits, Feeds, Fits, Gains, GainsFront, IsSettled, TellsFault, after_feed, frames_of, new_framing, rest_of};
 
 use crate::body::Body;
 use crate::frame::{Frame, FrameFault, HEADER, Header, Stage};
@@ -58,6 +58,14 @@ impl Framer {
         }
     }
 
+    /// Does nothing: its clauses say what is so of every framer.
+    pub fn keeps(&self)
+        ensures settled { IsSettled self.now }
+        ensures place { self.now.place < 2 ^ 64 }
+    {
+        let _place = self.place;
+    }
+
     /// How many bytes are in no whole frame, modulo 2^64: those behind a fault are counted too.
     pub fn rest(&self) -> usize
         ensures rest { result ≡ rest_of self.now }
@@ -71,8 +79,8 @@ impl Framer {
     /// # Errors
     ///
     /// `Bad` where the eight bytes of a header break a rule, after the frames before it were appended. Each later call
-    /// answers the same. Where memory was refused, only the first of the frames were appended, and each later call
-    /// answers want of memory.
+    /// answers the same. Where memory was refused, only the first of the frames were appended, behind what the list had, and
+    /// each later call answers want of memory and appends none.
     pub fn feed(
         &mut self,
         alloc: Global,
@@ -93,7 +101,7 @@ impl Framer {
 
     /// The fault that the held bytes show.
     fn answer(&self) -> Result<(), FrameFault>
-        ensures { Shows result self.now }
+        ensures { TellsFault result self.now }
     {
         match Stage::of(&self.held) {
             Stage::Breaks(code) => Err(FrameFault::Bad {
@@ -112,7 +120,7 @@ impl Framer {
     ) -> Result<(), OutOfMemory>
         ensures ok { OnOk result (self.new ≡ after_feed bytes.now self.old) }
         ensures frames { OnOk result (to.new.items ≡ to.old.items ++ frames_of bytes.now self.old) }
-        ensures part { OnErr result (IsFrontOf to.new.items (to.old.items ++ frames_of bytes.now self.old)) }
+        ensures part { OnErr result (GainsFront (frames_of bytes.now self.old) to.old.items to.new.items) }
     {
         let mut rest = bytes;
         while !rest.is_empty() {
@@ -139,21 +147,21 @@ impl Framer {
     ) -> Result<&'a [u8], OutOfMemory>
         requires { 0 < length bytes.now }
         ensures state { IfOk result (λ rest. after_feed rest.now self.new ≡ after_feed bytes.now self.old) }
-        ensures frames { IfOk result (λ rest. to.new.items ++ frames_of rest.now self.new ≡ to.old.items ++ frames_of bytes.now self.old) }
+        ensures frames { IfOk result (λ rest. Gains (frames_of bytes.now self.old) to.old.items to.new.items (frames_of rest.now self.new)) }
         ensures shorter { IfOk result (λ rest. length rest.now < length bytes.now) }
         ensures part { OnErr result (to.new.items ≡ to.old.items) }
     {
-        let (front, rest) = bytes.split_at(self.room(bytes.len()));
+        let (front, rest) = bytes.split_at(self.portion(bytes.len()));
         self.fill(alloc, front, to)?;
         Ok(rest)
     }
 
     /// How many of so many bytes are taken in at once: up to the end of the header or of the frame, or all after a fault.
-    fn room(&self, count: usize) -> usize
+    fn portion(&self, count: usize) -> usize
         requires { 0 < count }
         ensures at_most { result ≤ count }
         ensures some { 0 < result }
-        ensures room { Fits result (stage_of self.now.held) }
+        ensures fits { Fits result (stage_of self.now.held) }
     {
         match Stage::of(&self.held) {
             Stage::Waits(missing) => missing.min(count),

@@ -1,4 +1,4 @@
-ghost use Rattle.std.specs.Prelude.{◌≡◌, ◌≤◌, ◌++◌, length, IfSome, OnErr, OnOk};
+ghost use Rattle.std.specs.Prelude.{◌≡◌, ◌≤◌, ◌++◌, length, IfOk, IfSome, OnErr, OnOk};
 ghost use Rattle.ua_values.specs.Reading.{Gives, Moves, input};
 ghost use Rattle.ua_chunks.specs.Bodies.{Ends, IsWhole, error, error_at, greeting, greeting_at, hello, hello_at, value_of, whole_at, written_error, written_greeting, written_hello};
 ghost use Rattle.ua_chunks.specs.Streams.{chunk_bytes};
@@ -150,6 +150,39 @@ fn put_greeting(greeting: &Greeting, to: &mut Vec<u8>) -> Result<(), OutOfMemory
     Ok(())
 }
 
+/// The body of a HEL (OPC 10000-6, 7.1.2.3). The encoded value of the URL is below 4096.
+pub fn hello_body(alloc: Global, greeting: &Greeting, url: &UaText) -> Result<Vec<u8>, OutOfMemory>
+    requires { IfSome url.now (λ run. length run ≤ 4091) }
+    ensures body { IfOk result (λ body. body.items ≡ written_hello (greeting.now, url.now)) }
+    ensures short { IfOk result (λ body. length body.items ≤ 4115) }
+{
+    let mut body = Vec::new(alloc);
+    put_greeting(greeting, &mut body)?;
+    write_string(url, &mut body)?;
+    Ok(body)
+}
+
+/// The body of an ACK (OPC 10000-6, 7.1.2.4).
+pub fn ack_body(alloc: Global, greeting: &Greeting) -> Result<Vec<u8>, OutOfMemory>
+    ensures body { IfOk result (λ body. body.items ≡ written_greeting greeting.now) }
+    ensures short { IfOk result (λ body. length body.items ≡ 20) }
+{
+    let mut body = Vec::new(alloc);
+    put_greeting(greeting, &mut body)?;
+    Ok(body)
+}
+
+/// The body of an ERR of a status code, whose reason is null (OPC 10000-6, 7.1.2.5).
+pub fn err_body(alloc: Global, code: u32) -> Result<Vec<u8>, OutOfMemory>
+    ensures body { IfOk result (λ body. body.items ≡ written_error code) }
+    ensures short { IfOk result (λ body. length body.items ≡ 8) }
+{
+    let mut body = Vec::new(alloc);
+    write_uint32(code, &mut body)?;
+    write_string(&UaText::null(), &mut body)?;
+    Ok(body)
+}
+
 /// Appends a whole HEL (OPC 10000-6, 7.1.2.3). The encoded value of the URL is below 4096.
 pub fn write_hello(
     alloc: Global,
@@ -161,9 +194,7 @@ pub fn write_hello(
     ensures ok { OnOk result (to.new.items ≡ to.old.items ++ chunk_bytes kind.Hel chunk.Final (written_hello (greeting.now, url.now))) }
     ensures unchanged { OnErr result (to.new.items ≡ to.old.items) }
 {
-    let mut body = Vec::new(alloc);
-    put_greeting(greeting, &mut body)?;
-    write_string(url, &mut body)?;
+    let body = hello_body(alloc, greeting, url)?;
     write_frame(alloc, Kind::Hel, &body, to)
 }
 
@@ -172,8 +203,7 @@ pub fn write_ack(alloc: Global, greeting: &Greeting, to: &mut Vec<u8>) -> Result
     ensures ok { OnOk result (to.new.items ≡ to.old.items ++ chunk_bytes kind.Ack chunk.Final (written_greeting greeting.now)) }
     ensures unchanged { OnErr result (to.new.items ≡ to.old.items) }
 {
-    let mut body = Vec::new(alloc);
-    put_greeting(greeting, &mut body)?;
+    let body = ack_body(alloc, greeting)?;
     write_frame(alloc, Kind::Ack, &body, to)
 }
 
@@ -182,8 +212,6 @@ pub fn write_err(alloc: Global, code: u32, to: &mut Vec<u8>) -> Result<(), OutOf
     ensures ok { OnOk result (to.new.items ≡ to.old.items ++ chunk_bytes kind.Err chunk.Final (written_error code)) }
     ensures unchanged { OnErr result (to.new.items ≡ to.old.items) }
 {
-    let mut body = Vec::new(alloc);
-    write_uint32(code, &mut body)?;
-    write_string(&UaText::null(), &mut body)?;
+    let body = err_body(alloc, code)?;
     write_frame(alloc, Kind::Err, &body, to)
 }

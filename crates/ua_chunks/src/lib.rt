@@ -18,7 +18,10 @@ mod writing;
 pub use body::Body;
 pub use frame::{Chunk, Frame, FrameFault, Kind, MOST_FRAME};
 pub use framer::Framer;
-pub use greeting::{Greeting, read_ack, read_err, read_hello, write_ack, write_err, write_hello};
+pub use greeting::{
+    Greeting, ack_body, err_body, hello_body, read_ack, read_err, read_hello, write_ack, write_err,
+    write_hello,
+};
 pub use laws::{
     an_opn_is_read, bodies_are_lawful, chunks_make_a_message, faults_stay, frames_are_read_again,
     frames_are_the_longest, numbers_follow, pieces_are_one, renewals_keep_step,
@@ -27,3 +30,4 @@ pub use laws::{
 pub use message::{Assembler, MOST_CHUNKS, MOST_MESSAGE, Message};
 pub use opening::{OpnChunk, read_opn, read_policy};
 pub use sender::{PutFault, Sender};
+pub use writing::write_frame;

@@ -1,5 +1,5 @@
 ghost use Rattle.std.specs.Prelude.{◌≡◌, ◌≤◌, None, true, Err, IfOk, drop, length, OnErr, OnOk};
-ghost use Rattle.ua_chunks.specs.Assembly.{Adds, TakesNumber, fault_after, has_room, head_of, message_by, new_assembly, numbered, refusal, refusal_of, renewed, takes_number, takes_request, takes_token, with_chunk, without_message};
+ghost use Rattle.ua_chunks.specs.Assembly.{Adds, IsAssembly, TakesNumber, fault_after, has_room, head_of, message_by, new_assembly, numbered, refusal, refusal_of, renewed, takes_number, takes_request, takes_token, with_chunk, without_message};
 ghost use Rattle.ua_chunks.specs.declared.frame.FrameFault.TheVariants as faults;
 
 use crate::body::Body;
@@ -102,13 +102,12 @@ pub struct Assembler {
 impl Model for Assembler {
     ghost use Rattle.std.specs.Prelude.{◌≤◌, length};
     ghost use Rattle.ua_chunks.specs.Assembly.{Assembly};
-    ghost use Rattle.ua_chunks.specs.declared.message.TheConstants.{MOST_CHUNKS, MOST_MESSAGE};
 
     ghost Value = { Assembly };
 
     ghost view = { λ a. record { channel = a.channel; token = a.token; former = a.former; last = a.last; chunks = a.chunks; request = a.request; body = a.body.items; fault = a.fault } };
 
-    ghost invariant = { λ a. (a.chunks ≤ MOST_CHUNKS) × (length a.body.items ≤ MOST_MESSAGE) };
+    ghost invariant = { λ a. (a.chunks ≤ 64) × (length a.body.items ≤ 1048576) };
 }
 
 impl Assembler {
@@ -126,6 +125,22 @@ impl Assembler {
             body: Vec::new(alloc),
             fault: None,
         }
+    }
+
+    /// How many bytes of a message that isn't whole are held: at most 1,048,576.
+    pub fn partial(&self) -> usize
+        ensures bytes { result ≡ length self.now.body }
+        ensures bound { result ≤ 1048576 }
+    {
+        self.body.len()
+    }
+
+    /// Does nothing: its clause says what is so of every assembler.
+    pub fn keeps(&self)
+        ensures { IsAssembly self.now }
+    {
+        let _channel = self.channel;
+        let _token = self.token;
     }
 
     /// Later chunks must have these; their numbers go on. Where the channel stays, the former token is taken too until

@@ -2,7 +2,7 @@ ghost use Rattle.std.specs.Prelude.{◌≡◌, ◌≤◌, ◌<◌, ◌+◌, ◌^
 ghost use Rattle.ua_chunks.specs.declared.frame.Kind.TheVariants as kind;
 ghost use Rattle.ua_values.specs.Written.{written_text};
 ghost use Rattle.ua_chunks.specs.Bodies.{written_opn_head};
-ghost use Rattle.ua_chunks.specs.Sending.{MayPut, Puts, Sending, after_parts, after_put, limit_of, limited, message_parts, new_sending, none_policy, opn_head_of, opn_part, part, part_bytes, parts_bytes, put_bytes, room, written_head};
+ghost use Rattle.ua_chunks.specs.Sending.{IsSending, MayPut, Puts, Sending, after_parts, after_put, limit_of, limited, message_parts, new_sending, none_policy, opn_head_of, opn_part, part, part_bytes, parts_bytes, put_bytes, in_chunk, with_limits, written_head};
 
 use crate::frame::{Chunk, Kind, MOST_FRAME};
 use crate::message::{MOST_CHUNKS, MOST_MESSAGE};
@@ -97,6 +97,25 @@ impl Sender {
         }
     }
 
+    /// Later chunks are in frames of at most `size` bytes, and the other end takes `max_message` bytes and `max_chunks`
+    /// chunks of a message, as in `new`; the numbers go on. It takes no memory.
+    pub fn limit(&mut self, size: u32, max_message: u32, max_chunks: u32)
+        requires { 8192 ≤ size }
+        ensures { self.new ≡ with_limits size max_message max_chunks self.old }
+    {
+        self.size = size.min(MOST_FRAME);
+        self.max_message = max_message;
+        self.max_chunks = max_chunks;
+    }
+
+    /// Does nothing: its clause says what is so of every sender.
+    pub fn keeps(&self)
+        ensures { IsSending self.now }
+    {
+        let _channel = self.channel;
+        let _token = self.token;
+    }
+
     /// Later chunks have these; their numbers go on. It takes no memory.
     pub fn renew(&mut self, channel: u32, token: u32)
         ensures { self.new ≡ record self.old { channel = channel; token = token } }
@@ -106,21 +125,23 @@ impl Sender {
     }
 
     /// How many bytes of a message stand in one chunk.
-    fn room(&self) -> usize
-        ensures room { result ≡ room self.now }
+    fn in_chunk(&self) -> usize
+        ensures bytes { result ≡ in_chunk self.now }
         ensures least { 8168 ≤ result }
         ensures most { result ≤ 65512 }
     {
         (self.size - HEADERS) as usize
     }
 
-    /// How many bytes a message may have.
-    fn limit(&self) -> u64
-        ensures { result ≡ limit_of self.now }
+    /// How many bytes a message may have: the least of 1,048,576, what the other end takes of a message, and what 64
+    /// chunks have room for, or as many as the other end takes.
+    pub fn most_body(&self) -> usize
+        ensures limit { result ≡ limit_of self.now }
+        ensures bound { result ≤ 1048576 }
     {
-        let bytes = u64::from(limited(MOST_MESSAGE, self.max_message));
-        let chunks = u64::from(limited(MOST_CHUNKS, self.max_chunks));
-        bytes.min(self.room() as u64 * chunks)
+        let bytes = limited(MOST_MESSAGE, self.max_message) as usize;
+        let chunks = limited(MOST_CHUNKS, self.max_chunks) as usize;
+        bytes.min(self.in_chunk() * chunks)
     }
 
     /// Appends the chunks of a message: a MSG, or an OPN or a CLO of at most 4096 bytes. An OPN has the policy None,
@@ -143,7 +164,7 @@ impl Sender {
         ensures { Puts result kind request body.now self.old self.new to.old.items to.new.items }
     {
         let size = body.len() as u64;
-        let limit = self.limit();
+        let limit = self.most_body() as u64;
         if size > limit {
             return Err(PutFault::TooLarge { size, limit });
         }
@@ -192,11 +213,11 @@ impl Sender {
         ensures next { IfOk result (λ next. record self.now { next = next } ≡ after_parts (message_parts kind request body.now self.now) self.now) }
         ensures number { IfOk result (λ next. next ≤ 4294966272) }
     {
-        let room = self.room();
+        let most = self.in_chunk();
         let mut number = self.next;
         let mut rest = body;
-        while rest.len() > room {
-            let (front, back) = rest.split_at(room);
+        while rest.len() > most {
+            let (front, back) = rest.split_at(most);
             self.put_chunk(kind, Chunk::Middle, number, request, front, to)?;
             number = next_chunk(number);
             rest = back;
