@@ -1,14 +1,17 @@
 -- What holds of each family's bodies, and of the objects that hold its structures.
-use Rattle.std.proofs.Common.{◌≡◌, ℕ, ◌+◌, ◌^◌, ◌<◌, List, [], ◌++◌, length, Option, Some, Ok, refl, sym, ap, subst, ◌∙◌, arith}
+use Rattle.std.proofs.Common.{◌≡◌, ℕ, ◌+◌, ◌^◌, ◌<◌, List, [], ◌++◌, length, Option, Some, None, Result, Ok, Err, refl, sym, ap, subst, ◌∙◌, arith}
 use Rattle.std.proofs.lemmas.Bool.{le-ltb}
 use Rattle.std.proofs.lemmas.List.{append-nil}
 use Rattle.ua_values.specs.declared.node.NodeId.TheVariants as node
 use Rattle.ua_values.specs.declared.extension.ExtensionObject.{ExtensionObject}
-use Rattle.ua_values.specs.Reading.{input}
+use Rattle.ua_values.specs.Reading.{Input, input, Fault, Short, Bad, passed}
 use Rattle.ua_values.proofs.Chain.{is_apart}
 use Rattle.ua_values.proofs.WrittenLemmas.{node_spelled, in_turn}
-use Rattle.ua_structures.specs.Body.{type_number, type_id, Family, is_body, Opened, Known, opened, opened_at, whole, judged, judged_opened, body_at, written_type, Put, written_by, AreLawful, content_at, object_at, holds, object_by, AreHeld}
-use Rattle.ua_structures.proofs.Bodies.{opened_reads, is_known}
+use Rattle.ua_structures.specs.declared.body.BodyFault.{BodyFault}
+use Rattle.ua_structures.specs.declared.body.BodyFault.TheVariants as body
+use Rattle.ua_structures.specs.declared.front.BodyType.{BodyType}
+use Rattle.ua_structures.specs.Body.{type_number, type_id, type_at, behind_at, service, judged_type, IsForeignUnknown, Family, is_body, Opened, Known, opened, opened_at, whole, judged, judged_opened, body_at, written_type, Put, written_by, AreLawful, content_at, object_at, holds, object_by, AreHeld}
+use Rattle.ua_structures.proofs.Bodies.{type_reads, opened_reads, is_known}
 
 -- what is written of a value that keeps the rules is a spelling of it
 abbrev pub Spells : {K A : Type 0} → Family K A → (A → Put K) → Type 0
@@ -43,6 +46,34 @@ bodies_lawful family puts spelled = record {
       (is.0, known_same a b is.1);
   spelled = body_spelled family puts spelled;
   again = λ a kept. body_again family a (written_by family puts a) (body_spelled family puts spelled a kept);
+}
+
+-- ---- a type that no structure of the family has
+
+foreign_read : {K A : Type 0} (family : Family K A) (bytes : List ℕ) (n : ℕ) (after : Input) → type_at (input 0 bytes) ≡ Ok (n, after) → service family n ≡ None → body_at family bytes ≡ Err (body.Unknown n)
+foreign_read family bytes n after read none =
+    ap (judged_opened (length bytes)) (ap (λ r. passed r (λ m. behind_at family.cases m (service family m))) read ∙ ap (λ o. behind_at family.cases n o after) none)
+
+foreign_spelled : {K A : Type 0} (family : Family K A) (n : ℕ) (front text : List ℕ) → type_id n front → service family n ≡ None → body_at family (front ++ text) ≡ Err (body.Unknown n)
+foreign_spelled family n front text spelled none =
+    foreign_read family (front ++ text) n (input (0 + length front) text) (type_reads.again 0 front text n spelled) none
+
+type_same : (x t : BodyType) → ◌≡◌ {A = Result BodyType BodyFault} (Ok x) (Ok t) → x ≡ t
+type_same x t e = cc
+
+foreign_behind : {K A : Type 0} (family : Family K A) (bytes : List ℕ) (r : Result (ℕ × Input) Fault) → type_at (input 0 bytes) ≡ r → (t : BodyType) → judged_type (length bytes) r ≡ Ok t → service family t.id ≡ None
+    → body_at family bytes ≡ Err (body.Unknown t.id)
+foreign_behind family bytes (Ok x) e t is none =
+    let same : x.0 ≡ t.id = ap (λ (y : BodyType). y.id) (type_same (record { id = x.0; place = x.1.place }) t is) in
+    foreign_read family bytes t.id x.1 (e ∙ ap (λ (n : ℕ). Ok (n, x.1)) same) none
+foreign_behind family bytes (Err Short) e t is none = absurd cc
+foreign_behind family bytes (Err (Bad place code)) e t is none = absurd cc
+
+pub foreign_unknown : {K A : Type 0} (family : Family K A) → IsForeignUnknown family
+foreign_unknown family = record {
+  spelled = foreign_spelled family;
+  written = λ n text fits none. foreign_spelled family n (written_type n) text (type_spelled n fits) none;
+  read = λ bytes t is none. foreign_behind family bytes (type_at (input 0 bytes)) refl t is none;
 }
 
 -- ---- structures in an ExtensionObject

@@ -2,6 +2,7 @@
 -- ExtensionObject in the same way (5.2.2.15).
 use Rattle.std.specs.Prelude.{◌≡◌, ◌≢◌, ◌==◌, ◌≤◌, ◌<◌, ℕ, ◌^◌, List, [], ◌++◌, length, take, Option, Some, None, Result, Ok, Err, nat_lt, if◌then◌else◌, ◌⊎◌}
 use Rattle.std.specs.List.{find}
+use Rattle.ua_base.specs.Status.{bad_decoding_error}
 use Rattle.ua_values.specs.declared.node.NodeId.{NodeId}
 use Rattle.ua_values.specs.declared.node.NodeId.TheVariants as node
 use Rattle.ua_values.specs.declared.extension.ExtensionObject.{ExtensionObject}
@@ -16,10 +17,11 @@ use Rattle.ua_values.specs.Types.{node_id}
 use Rattle.ua_values.specs.Readers.{node_at}
 use Rattle.ua_values.specs.Written.{written_node}
 use Rattle.ua_values.specs.Answer.{EndsEarly, IsFault}
+use Rattle.ua_values.proofs.Nesting.{reads_mapped}
 use Rattle.ua_structures.specs.declared.body.BodyFault.{BodyFault}
 use Rattle.ua_structures.specs.declared.body.BodyFault.TheVariants as body
+use Rattle.ua_structures.specs.declared.front.BodyType.{BodyType}
 use Rattle.ua_structures.specs.Form.{Form}
-use Rattle.ua_structures.specs.Fitting.{made_reads}
 
 -- ---- the grammar
 
@@ -45,7 +47,7 @@ case {P = P} form make = record {
   spells = λ a bytes. (p : P) × (a ≡ make p) × form.spells p bytes;
   cut = form.cut;
   at = form.at >>= λ p. give (make p);
-  reads = made_reads form.spells form.cut form.at make form.reads;
+  reads = reads_mapped form.spells form.cut form.at make form.reads;
 }
 
 -- structures of which one may be meant, by their types
@@ -106,10 +108,10 @@ opened_at family = do
 
 -- a body of so many bytes that ends early does so at its end; what is left over is a fault at its first byte
 abbrev pub whole : {A : Type 0} → ℕ → A → ℕ → Result A BodyFault
-whole long a place = if nat_lt place long then Err (body.Bad place 0x80070000) else Ok a
+whole long a place = if nat_lt place long then Err (body.Bad place bad_decoding_error) else Ok a
 
 abbrev pub failed : {A : Type 0} → ℕ → Fault → Result A BodyFault
-failed long Short = Err (body.Bad long 0x80070000)
+failed long Short = Err (body.Bad long bad_decoding_error)
 failed long (Bad place code) = Err (body.Bad place code)
 
 abbrev pub judged : {A : Type 0} → ℕ → Result (A × Input) Fault → Result A BodyFault
@@ -124,9 +126,17 @@ judged_opened long (Err fault) = failed long fault
 abbrev pub body_at : {K A : Type 0} → Family K A → List ℕ → Result A BodyFault
 body_at family bytes = judged_opened (length bytes) (opened_at family (input 0 bytes))
 
+-- the type that a body begins with, and the place of the first byte behind it
+abbrev pub judged_type : ℕ → Result (ℕ × Input) Fault → Result BodyType BodyFault
+judged_type long (Ok x) = Ok (record { id = x.0; place = x.1.place })
+judged_type long (Err fault) = failed long fault
+
+abbrev pub body_type_at : List ℕ → Result BodyType BodyFault
+body_type_at bytes = judged_type (length bytes) (type_at (input 0 bytes))
+
 -- the same of what a cursor's call answered, and where the cursor stands
 abbrev pub body_fault : ℕ → ValueFault → BodyFault
-body_fault long faults.Short = body.Bad long 0x80070000
+body_fault long faults.Short = body.Bad long bad_decoding_error
 body_fault long (faults.Bad place code) = body.Bad place code
 body_fault long faults.OutOfMemory = body.OutOfMemory
 
@@ -146,8 +156,8 @@ Answers (Err body.OutOfMemory) read = Unit {0}
 -- the bytes are no body, whole from end to end: they end inside what is spelled, or go on behind a whole body, or a field breaks a rule
 abbrev pub IsBadBody : {A O : Type 0} → (A → List ℕ → Type 0) → (O → List ℕ → Type 0) → (List ℕ → Type 0) → List ℕ → ℕ → ℕ → Type 0
 IsBadBody {A = A} is_whole spells cut bytes place code =
-    ((code ≡ 0x80070000) × (place ≡ length bytes) × EndsEarly spells cut bytes)
-    ⊎ ((code ≡ 0x80070000) × (place < length bytes) × ((a : A) × is_whole a (take place bytes)))
+    ((code ≡ bad_decoding_error) × (place ≡ length bytes) × EndsEarly spells cut bytes)
+    ⊎ ((code ≡ bad_decoding_error) × (place < length bytes) × ((a : A) × is_whole a (take place bytes)))
     ⊎ IsFault spells cut bytes place code
 
 abbrev pub IsBodyRead : {K A : Type 0} → Family K A → List ℕ → Result A BodyFault → Type 0
@@ -156,11 +166,24 @@ IsBodyRead family bytes (Err (body.Unknown n)) = is_foreign family n × ((size :
 IsBodyRead family bytes (Err (body.Bad place code)) = IsBadBody (is_body family) (opened family) (opened_cut family) bytes place code
 IsBodyRead family bytes (Err body.OutOfMemory) = Unit {0}
 
+-- the type stands at the front; else the bytes end inside it, or it has no form or is too long
+abbrev pub IsTypeRead : List ℕ → Result BodyType BodyFault → Type 0
+IsTypeRead bytes (Ok t) = (t.place ≤ length bytes) × type_id t.id (take t.place bytes)
+IsTypeRead bytes (Err (body.Unknown n)) = ⊥
+IsTypeRead bytes (Err (body.Bad place code)) =
+    ((code ≡ bad_decoding_error) × (place ≡ length bytes) × EndsEarly type_id (Begun type_id) bytes)
+    ⊎ IsFault type_id (Begun type_id) bytes place code
+IsTypeRead bytes (Err body.OutOfMemory) = Unit {0}
+
 -- ---- writing
 
 -- the shortest spelling of the type
 abbrev pub written_type : ℕ → List ℕ
 written_type n = written_node (node.Numeric 0 n)
+
+-- the type, and the structure's text
+abbrev pub written_body : ℕ → List ℕ → List ℕ
+written_body n text = written_type n ++ text
 
 -- how a value is written: which structure it is, its text, and whether it keeps the rules
 pub record Put (K : Type 0) : Type 1 where
@@ -175,7 +198,7 @@ abbrev pub number_by : {K A : Type 0} → Family K A → (A → Put K) → A →
 number_by family puts a = family.id (puts a).kind
 
 abbrev pub written_by : {K A : Type 0} → Family K A → (A → Put K) → A → List ℕ
-written_by family puts a = written_type (number_by family puts a) ++ (puts a).text
+written_by family puts a = written_body (number_by family puts a) (puts a).text
 
 -- what holds of a family's bodies
 pub record AreLawful {K A : Type 0} (family : Family K A) (puts : A → Put K) : Type 0 where
@@ -185,6 +208,15 @@ pub record AreLawful {K A : Type 0} (family : Family K A) (puts : A → Put K) :
   pub spelled : (a : A) → (puts a).keeps → is_body family a (written_by family puts a)
   -- and is read again
   pub again : (a : A) → (puts a).keeps → body_at family (written_by family puts a) ≡ Ok a
+
+-- what stands behind a type that no structure of the family has isn't looked at
+pub record IsForeignUnknown {K A : Type 0} (family : Family K A) : Type 0 where
+  -- however the type is spelled
+  pub spelled : (n : ℕ) (front text : List ℕ) → type_id n front → service family n ≡ None → body_at family (front ++ text) ≡ Err (body.Unknown n)
+  -- so where it is written
+  pub written : (n : ℕ) (text : List ℕ) → n < 2 ^ 32 → service family n ≡ None → body_at family (written_type n ++ text) ≡ Err (body.Unknown n)
+  -- and where it is read
+  pub read : (bytes : List ℕ) (t : BodyType) → body_type_at bytes ≡ Ok t → service family t.id ≡ None → body_at family bytes ≡ Err (body.Unknown t.id)
 
 -- ---- a structure in an ExtensionObject
 
@@ -196,7 +228,7 @@ held_bytes extension.Absent = None
 
 abbrev pub content_at : {K A : Type 0} → Family K A → ℕ → Option K → Option (List ℕ) → Result A BodyFault
 content_at family n None held = Err (body.Unknown n)
-content_at family n (Some k) None = Err (body.Bad 0 0x80070000)
+content_at family n (Some k) None = Err (body.Bad 0 bad_decoding_error)
 content_at family n (Some k) (Some bytes) = judged (length bytes) ((family.cases k).at (input 0 bytes))
 
 abbrev pub object_at : {K A : Type 0} → Family K A → ExtensionObject → Result A BodyFault
@@ -208,7 +240,7 @@ holds {K = K} family a x = (k : K) × (bytes : List ℕ) × (type_number x.type_
 
 -- the object has no bytes, or its bytes are no spelling of the structure that its type says
 abbrev pub IsBadContent : {A : Type 0} → Case A → Option (List ℕ) → ℕ → ℕ → Type 0
-IsBadContent one None place code = (place ≡ 0) × (code ≡ 0x80070000)
+IsBadContent one None place code = (place ≡ 0) × (code ≡ bad_decoding_error)
 IsBadContent one (Some bytes) place code = IsBadBody one.spells one.spells one.cut bytes place code
 
 abbrev pub IsContentRead : {K A : Type 0} → Family K A → ExtensionObject → Result A BodyFault → Type 0
@@ -217,8 +249,12 @@ IsContentRead family x (Err (body.Unknown n)) = (type_number x.type_id ≡ n) ×
 IsContentRead {K = K} family x (Err (body.Bad place code)) = (k : K) × (type_number x.type_id ≡ family.id k) × IsBadContent (family.cases k) (held_bytes x.body) place code
 IsContentRead family x (Err body.OutOfMemory) = Unit {0}
 
+-- the object of this type with these bytes
+abbrev pub object_of : ℕ → List ℕ → ExtensionObject
+object_of n text = record { type_id = node.Numeric 0 n; body = extension.Binary (Some text) }
+
 abbrev pub object_by : {K A : Type 0} → Family K A → (A → Put K) → A → ExtensionObject
-object_by family puts a = record { type_id = node.Numeric 0 (number_by family puts a); body = extension.Binary (Some (puts a).text) }
+object_by family puts a = object_of (number_by family puts a) (puts a).text
 
 pub record AreHeld {K A : Type 0} (family : Family K A) (puts : A → Put K) : Type 0 where
   -- an object holds one value at most

@@ -2,11 +2,10 @@
 use Rattle.std.proofs.Common.{◌≡◌, ℕ, ℤ, ◌^◌, ◌<◌, List, [], ◌++◌, None, refl, sym, ap, subst, ◌∙◌, arith, FitsSigned}
 use Rattle.std.specs.Int.{w32, w64}
 use Rattle.byteorder.specs.Endian.{little_bytes}
-use Rattle.ua_values.specs.declared.fault.TheConstants.{MOST_ITEMS}
 use Rattle.ua_values.specs.Reading.{Reader, ◌>>=◌, give}
-use Rattle.ua_values.specs.Parts.{number, ◌followed_by◌, array, ChainCut, array_cut}
+use Rattle.ua_values.specs.Parts.{number, ◌followed_by◌, ChainCut}
 use Rattle.ua_values.specs.Codec.{Reads, IsCodec}
-use Rattle.ua_values.specs.Readers.{signed_at, array_at}
+use Rattle.ua_values.specs.Readers.{signed_at}
 use Rattle.ua_values.specs.Types.{signed}
 use Rattle.ua_values.specs.Written.{written_signed}
 use Rattle.ua_values.specs.Laws.{KeepsText, KeepsExtension, KeepsArray}
@@ -14,7 +13,7 @@ use Rattle.ua_values.specs.declared.node.NodeId.TheVariants as node
 use Rattle.ua_values.specs.declared.extension.ExtensionBody.TheVariants as extension
 use Rattle.ua_values.proofs.Chain.{reads_as}
 use Rattle.ua_values.proofs.Fields.{Mapped, MadeOf}
-use Rattle.ua_values.proofs.Nesting.{reads_mapped, reads_made_of, array_reads}
+use Rattle.ua_values.proofs.Nesting.{reads_mapped, reads_made_of}
 use Rattle.ua_values.proofs.TypeCodecs.{signed_codec}
 use Rattle.ua_values.proofs.WrittenLemmas.{number_spelled, signed_spelled, in_turn}
 
@@ -55,8 +54,9 @@ record_reads S C at parts make made parted reader =
     (λ bytes cut. cut)
     (reads_mapped S C at make reader)
 
-pub list_reads : {A : Type 0} (S : A → List ℕ → Type 0) (C : List ℕ → Type 0) (at : Reader A) → Reads S C at → Reads (array S) (array_cut MOST_ITEMS S C) (array_at at)
-list_reads S C at reader = array_reads MOST_ITEMS (omega arith) S C at reader
+-- so many elements as an array may have can be counted
+pub most_items : 65536 < 2 ^ 31
+most_items = omega arith
 
 pub unused_reads : {A U : Type 0} (S : A → List ℕ → Type 0) (C : List ℕ → Type 0) (at : Reader A) (nothing : U) → ((u : U) → u ≡ nothing) → Reads S C at
     → Reads (λ (u : U) bytes. (a : A) × S a bytes) C (at >>= λ a. give nothing)
@@ -83,9 +83,3 @@ fits_rest_of_request = (fits_zero, (tt, (fits_zero, fits_object)))
 
 pub fits_rest_of_response : (Unit {0}) × (KeepsArray KeepsText [] × KeepsExtension (record { type_id = node.Numeric 0 0; body = extension.Absent }))
 fits_rest_of_response = (tt, (fits_none KeepsText, fits_object))
-
--- ---- a structure as one of a family
-
-pub made_reads : {P A : Type 0} (S : P → List ℕ → Type 0) (C : List ℕ → Type 0) (at : Reader P) (make : P → A) → Reads S C at
-    → Reads (λ (a : A) bytes. (p : P) × (a ≡ make p) × S p bytes) C (at >>= λ p. give (make p))
-made_reads S C at make reader = reads_mapped S C at make reader

@@ -1,6 +1,7 @@
 -- The front of a request's body: its type and its header. What stands behind them isn't looked at, so that a reply can be made for a
 -- request of any type.
 use Rattle.std.specs.Prelude.{◌≡◌, ◌≤◌, ℕ, List, length, take, Result, Ok, Err, ◌⊎◌}
+use Rattle.ua_base.specs.Status.{bad_decoding_error}
 use Rattle.ua_values.specs.Reading.{Input, input, Reader, Fault, ◌>>=◌}
 use Rattle.ua_values.specs.Parts.{◌followed_by◌, ChainCut, Begun}
 use Rattle.ua_values.specs.Answer.{EndsEarly, IsFault}
@@ -36,6 +37,6 @@ abbrev pub IsHeaderRead : List ℕ → Result RequestHeader BodyFault → Type 0
 IsHeaderRead bytes (Ok h) = (size : ℕ) × (size ≤ length bytes) × is_head h (take size bytes)
 IsHeaderRead bytes (Err (body.Unknown n)) = ⊥
 IsHeaderRead bytes (Err (body.Bad place code)) =
-    ((code ≡ 0x80070000) × (place ≡ length bytes) × EndsEarly is_head head_cut bytes)
+    ((code ≡ bad_decoding_error) × (place ≡ length bytes) × EndsEarly is_head head_cut bytes)
     ⊎ IsFault is_head head_cut bytes place code
 IsHeaderRead bytes (Err body.OutOfMemory) = Unit {0}

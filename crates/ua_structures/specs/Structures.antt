@@ -1,5 +1,6 @@
 -- The structures that several services share (OPC 10000-4, 7): their fields in their order.
-use Rattle.std.specs.Prelude.{[], None, refl}
+use Rattle.std.specs.Prelude.{ℕ, ℤ, [], None, refl}
+use Rattle.ua_values.specs.declared.node.NodeId.{NodeId}
 use Rattle.ua_values.specs.declared.node.NodeId.TheVariants as node
 use Rattle.ua_values.specs.declared.extension.ExtensionObject.{ExtensionObject}
 use Rattle.ua_values.specs.declared.extension.ExtensionBody.TheVariants as extension
@@ -39,11 +40,19 @@ a_request_header = structure (a_node_id then a_date_time then a_uint32 then an_u
     (λ h. (h.authentication_token, (h.timestamp, (h.request_handle, h.rest))))
     (λ f. record { authentication_token = f.0; timestamp = f.1.0; request_handle = f.1.1.0; rest = f.1.1.1 }) (λ h. refl) (λ f. refl)
 
+-- the header of a request with this token, number and time: all else is what is never used
+abbrev pub request_header : NodeId → ℕ → ℤ → RequestHeader
+request_header token number time = record { authentication_token = token; timestamp = time; request_handle = number; rest = record {} }
+
 -- OPC 10000-4, 7.29
 unfoldable pub a_response_header : Form ResponseHeader
 a_response_header = structure (a_date_time then a_uint32 then a_uint32 then an_unused_of_response)
     (λ h. (h.timestamp, (h.request_handle, (h.service_result, h.rest))))
     (λ f. record { timestamp = f.0; request_handle = f.1.0; service_result = f.1.1.0; rest = f.1.1.1 }) (λ h. refl) (λ f. refl)
+
+-- the header of a reply to the request of this number, with the StatusCode of the whole service and the time
+abbrev pub response_header : ℕ → ℕ → ℤ → ResponseHeader
+response_header number code time = record { timestamp = time; request_handle = number; service_result = code; rest = record {} }
 
 -- OPC 10000-4, 7.24
 unfoldable pub a_read_value_id : Form ReadValueId

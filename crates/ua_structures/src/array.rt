@@ -1,11 +1,11 @@
-ghost use Rattle.std.specs.Prelude.{◌≡◌, ◌↔◌, [], length, IsTrue};
+ghost use Rattle.std.specs.Prelude.{◌≡◌, ◌↔◌, ◌++◌, [], length, IsTrue, IfOk};
 ghost use Rattle.ua_values.specs.Readers.{array_at};
 ghost use Rattle.ua_values.specs.Written.{written_array};
 
 use std::alloc::Global;
 use std::marker::Model;
 use ua_base::OutOfMemory;
-use ua_values::{Cursor, Element, ValueFault, put_array, read_array};
+use ua_values::{Cursor, Element, ExtensionObject, ValueFault, put_array, read_array};
 
 /// The elements of an array that is a field (OPC 10000-6, 5.2.5). A null array is an empty one. What has more than 65,536 is refused
 /// where it is read, and has no spelling.
@@ -63,6 +63,19 @@ impl<T> UaArray<T> {
         ensures { result.items ≡ self }
     {
         self.items
+    }
+}
+
+impl UaArray<ExtensionObject> {
+    /// The same objects once more.
+    pub fn copy(&self, alloc: Global) -> Result<UaArray<ExtensionObject>, OutOfMemory>
+        ensures { IfOk result (λ copied. copied ≡ self.now) }
+    {
+        let mut copied = Vec::new(alloc);
+        for object in self.items.iter() {
+            copied.push(object.copy(alloc)?)?;
+        }
+        Ok(UaArray::new(copied))
     }
 }
 

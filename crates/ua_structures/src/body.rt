@@ -1,12 +1,11 @@
-ghost use Rattle.std.specs.Prelude.{◌≡◌, ◌++◌, ◌-◌, Some, List, ℕ, Option, OnOk, OnErr, IfOk, length};
+ghost use Rattle.std.specs.Prelude.{◌≡◌, ◌++◌, List, ℕ, Option, OnOk, OnErr, IfOk, length};
 ghost use Rattle.std.specs.Option.{option_copied};
 ghost use Rattle.ua_values.specs.Reading.{Moves, input};
 ghost use Rattle.ua_values.specs.declared.node.NodeId.TheVariants as node;
-ghost use Rattle.ua_values.specs.declared.extension.ExtensionBody.TheVariants as extension;
-ghost use Rattle.ua_structures.specs.Body.{Family, service, type_number, type_at, body_fault, finished, body_at, object_at, written_type, judged, held_bytes, Answers, IsBodyRead, IsContentRead};
-ghost use Rattle.ua_structures.specs.Header.{head_at, header_at, IsHeaderRead};
+ghost use Rattle.ua_structures.specs.Body.{Family, service, type_number, type_at, body_fault, finished, body_at};
+ghost use Rattle.ua_structures.specs.Body.{object_at, written_body, object_of, judged, held_bytes};
+ghost use Rattle.ua_structures.specs.Body.{Answers, IsBodyRead, IsContentRead};
 
-use crate::header::RequestHeader;
 use std::alloc::Global;
 use thiserror::Error;
 use ua_base::OutOfMemory;
@@ -80,14 +79,14 @@ fn type_of(id: u32) -> NodeId
 }
 
 /// Reads the type that a body begins with.
-fn read_type(alloc: Global, from: &mut Cursor<'_>) -> Result<u32, ValueFault>
+pub(crate) fn take_type(alloc: Global, from: &mut Cursor<'_>) -> Result<u32, ValueFault>
     ensures { Moves (λ n. n) result from.new (type_at from.old) }
 {
     Ok(type_number(&from.node_id(alloc)?))
 }
 
 /// Why a body of so many bytes doesn't read: one that ends early does so at its end.
-fn failed(fault: ValueFault, length: usize) -> BodyFault
+pub(crate) fn failed(fault: ValueFault, length: usize) -> BodyFault
     ensures { result ≡ body_fault length fault }
 {
     match fault {
@@ -118,7 +117,7 @@ fn read_opened<B: Body>(alloc: Global, bytes: &[u8]) -> Result<B, BodyFault>
     ensures { Answers result (body_at B.family bytes.now) }
 {
     let mut from = Cursor::new(bytes);
-    let id = match read_type(alloc, &mut from) {
+    let id = match take_type(alloc, &mut from) {
         Ok(id) => id,
         Err(fault) => return Err(failed(fault, bytes.len())),
     };
@@ -142,38 +141,9 @@ pub fn read_body<B: Body>(alloc: Global, bytes: &[u8]) -> Result<B, BodyFault>
     read_opened(alloc, bytes)
 }
 
-/// Reads a type, whichever it is, and the header of a request.
-fn read_head(alloc: Global, from: &mut Cursor<'_>) -> Result<RequestHeader, ValueFault>
-    ensures { Moves (λ h. h) result from.new (head_at from.old) }
-{
-    read_type(alloc, from)?;
-    RequestHeader::read(alloc, from)
-}
-
-fn read_front(alloc: Global, bytes: &[u8]) -> Result<RequestHeader, BodyFault>
-    ensures { Answers result (header_at bytes.now) }
-{
-    match read_head(alloc, &mut Cursor::new(bytes)) {
-        Ok(header) => Ok(header),
-        Err(fault) => Err(failed(fault, bytes.len())),
-    }
-}
-
-/// Reads the header of a request of any type, and nothing behind it: it says where a reply to a request that doesn't read belongs.
-///
-/// # Errors
-///
-/// `Bad` where the type or the header doesn't read or ends early; never `Unknown`.
-pub fn read_header(alloc: Global, bytes: &[u8]) -> Result<RequestHeader, BodyFault>
-    ensures exact { Answers result (header_at bytes.now) }
-    ensures spelled { IsHeaderRead bytes.now result }
-{
-    read_front(alloc, bytes)
-}
-
 /// Appends the type and the structure. Want of memory leaves what was appended by then.
 fn put_body<B: Body>(value: &B, to: &mut Vec<u8>) -> Result<(), OutOfMemory>
-    ensures { OnOk result (to.new.items ≡ to.old.items ++ (written_type (B.number value.now) ++ B.text value.now)) }
+    ensures { OnOk result (to.new.items ≡ to.old.items ++ written_body (B.number value.now) (B.text value.now)) }
 {
     put_node_id(&type_of(value.number()), to)?;
     value.put_structure(to)
@@ -181,7 +151,7 @@ fn put_body<B: Body>(value: &B, to: &mut Vec<u8>) -> Result<(), OutOfMemory>
 
 /// Appends a body, or nothing where memory is refused.
 pub fn write_body<B: Body>(value: &B, to: &mut Vec<u8>) -> Result<(), OutOfMemory>
-    ensures ok { OnOk result (to.new.items ≡ to.old.items ++ (written_type (B.number value.now) ++ B.text value.now)) }
+    ensures ok { OnOk result (to.new.items ≡ to.old.items ++ written_body (B.number value.now) (B.text value.now)) }
     ensures unchanged { OnErr result (to.new.items ≡ to.old.items) }
 {
     let mut built = Vec::new(*to.allocator());
@@ -240,7 +210,7 @@ pub fn read_content<B: Body>(alloc: Global, object: &ExtensionObject) -> Result<
 
 /// The ExtensionObject that holds this structure.
 pub fn write_content<B: Body>(alloc: Global, value: &B) -> Result<ExtensionObject, OutOfMemory>
-    ensures { IfOk result (λ x. x ≡ record { type_id = node.Numeric 0 (B.number value.now); body = extension.Binary (Some (B.text value.now)) }) }
+    ensures { IfOk result (λ x. x ≡ object_of (B.number value.now) (B.text value.now)) }
 {
     let mut bytes = Vec::new(alloc);
     value.put_structure(&mut bytes)?;

@@ -1,3 +1,6 @@
+ghost use Rattle.std.specs.Prelude.{◌≡◌};
+ghost use Rattle.ua_structures.specs.Structures.{request_header, response_header};
+
 use crate::fields::{put_fields, read_fields};
 use crate::unused::{UnusedOfRequest, UnusedOfResponse};
 use std::alloc::Global;
@@ -14,6 +17,21 @@ pub struct RequestHeader {
     /// The client's number for the request, which its reply has too.
     pub request_handle: u32,
     pub rest: UnusedOfRequest,
+}
+
+impl RequestHeader {
+    /// The header of a request with this token, number and time (100 nanoseconds since 1601-01-01 UTC). All else of it is 0, null or
+    /// empty; so it asks for no diagnostics and names no timeout. It takes no memory.
+    pub fn new(authentication_token: NodeId, request_handle: u32, timestamp: i64) -> RequestHeader
+        ensures { result ≡ request_header authentication_token request_handle timestamp }
+    {
+        RequestHeader {
+            authentication_token,
+            timestamp,
+            request_handle,
+            rest: UnusedOfRequest,
+        }
+    }
 }
 
 #[tactic(auto, unfolding(crate::specs::Structures::a_request_header))]
@@ -43,6 +61,21 @@ pub struct ResponseHeader {
     /// The StatusCode of the whole service.
     pub service_result: u32,
     pub rest: UnusedOfResponse,
+}
+
+impl ResponseHeader {
+    /// The header of a reply to the request of this number, with the StatusCode of the whole service and the time (100 nanoseconds since
+    /// 1601-01-01 UTC). All else of it is 0, null or empty.
+    pub fn new(request_handle: u32, service_result: u32, timestamp: i64) -> ResponseHeader
+        ensures { result ≡ response_header request_handle service_result timestamp }
+    {
+        ResponseHeader {
+            timestamp,
+            request_handle,
+            service_result,
+            rest: UnusedOfResponse,
+        }
+    }
 }
 
 #[tactic(auto, unfolding(crate::specs::Structures::a_response_header))]

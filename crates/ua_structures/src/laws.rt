@@ -1,7 +1,15 @@
-//! Laws of the shared structures, each the contract of a function that does nothing.
+//! Laws of the shared structures and of any family, each the contract of a function that does nothing.
 
 ghost use Rattle.ua_values.specs.Laws.{IsLawful};
+ghost use Rattle.ua_structures.specs.Body.{IsForeignUnknown};
 ghost use Rattle.ua_structures.specs.Structures.{a_request_header, a_response_header, a_read_value_id};
+
+use crate::body::Body;
+
+/// A body of a type that no structure of the family has is of an unknown type, whatever stands behind the type.
+pub fn foreign_is_unknown<B: Body>()
+    ensures { IsForeignUnknown B.family }
+{}
 
 /// A RequestHeader.
 pub fn request_headers_are_lawful()

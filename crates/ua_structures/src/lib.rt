@@ -4,6 +4,7 @@
 mod array;
 mod body;
 mod fields;
+mod front;
 mod header;
 mod laws;
 mod shared;
@@ -12,11 +13,13 @@ mod tests;
 mod unused;
 
 pub use array::UaArray;
-pub use body::{Body, BodyFault, read_body, read_content, read_header, write_body, write_content};
+pub use body::{Body, BodyFault, read_body, read_content, write_body, write_content};
 pub use fields::{Both, Fields};
+pub use front::{BodyType, read_header, read_type};
 pub use header::{RequestHeader, ResponseHeader};
 pub use laws::{
-    read_value_ids_are_lawful, request_headers_are_lawful, response_headers_are_lawful,
+    foreign_is_unknown, read_value_ids_are_lawful, request_headers_are_lawful,
+    response_headers_are_lawful,
 };
 pub use shared::ReadValueId;
 pub use unused::{UnusedDiagnostics, UnusedOfRequest, UnusedOfResponse, no_object};

@@ -3,7 +3,7 @@ use Rattle.ua_values.specs.Reading.{Input, Fails, input}
 use Rattle.ua_structures.specs.Body.{Answers}
 use Rattle.ua_structures.specs.Header.{head_at, header_at}
 use Rattle.ua_structures.proofs.Headers.{front_fails}
-use Rattle.ua_structures.proofs.body.read_front.Goals as goal
+use Rattle.ua_structures.proofs.front.read_header_alone.Goals as goal
 
 pub returns-in-Err : goal.returns-in-Err
 returns-in-Err c =

@@ -1,5 +1,0 @@
-use Rattle.ua_structures.proofs.Headers.{header_said}
-use Rattle.ua_structures.proofs.body.read_header.Goals as goal
-
-pub returns-clause-spelled : goal.returns-clause-spelled
-returns-clause-spelled c = header_said c.args.bytes.now c.read_front.result c.read_front.ensures
