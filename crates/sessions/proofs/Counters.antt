@@ -4,10 +4,10 @@ use Rattle.std.specs.List.{All, filter, list_any}
 use Rattle.std.specs.Prelude.{map, ◌==◌, is_some, Option, Some, None}
 use Rattle.std.proofs.lemmas.List.Elements.{All-head, All-tail, All-cons}
 use Rattle.sessions.specs.declared.session.Session.{Session}
-use Rattle.sessions.specs.Calls.{Call, Create, Activate, Check, Bound, Unbind, Close, Expire, Park, Unpark, Own, Disown, after_call, after_create, counters_given, given_by_create}
+use Rattle.sessions.specs.Calls.{Call, Create, Activate, Check, Bound, Unbind, Close, Expire, Park, Unpark, Own, Disown, Transfer, after_call, after_create, counters_given, given_by_create}
 use Rattle.sessions.specs.Sound.{RiseAbove, counters}
 use Rattle.sessions.specs.State.{SessionsState}
-use Rattle.sessions.specs.Table.{at_first, is_full, lives, owned_by, session_at, without_first}
+use Rattle.sessions.specs.Table.{at_first, given_to, is_full, lives, may_transfer, owned_by, session_at, transferred, without_first}
 
 -- what changes a session and leaves its counter
 abbrev pub Numbers : (Session → Session) → Type 0
@@ -90,6 +90,13 @@ pub last_owned : (id : ℕ) (session : Option Session) (state : SessionsState) �
 last_owned id None state = refl
 last_owned id (Some session) state = refl
 
+last_transferred : (id to : ℕ) (state : SessionsState) → (transferred id to state).last_counter ≡ state.last_counter
+last_transferred id to state = by_test (may_transfer id to state)
+  where
+    by_test : (b : Bool) → (cond b (record state { owned = map (given_to id to) state.owned }) state).last_counter ≡ state.last_counter
+    by_test true = refl
+    by_test false = refl
+
 -- the counters that are given rise above the one given last
 pub given_rise : (calls : List Call) (state : SessionsState) (low : ℕ) → low ≤ state.last_counter → RiseAbove low (counters_given calls state)
 given_rise [] state low under = tt
@@ -111,6 +118,8 @@ given_rise (Unpark session ∷ calls) state low under = given_rise calls (after_
 given_rise (Own id session ∷ calls) state low under =
     given_rise calls (after_call (Own id session) state) low (rw (last_owned id (session_at session state.sessions) state) under)
 given_rise (Disown id ∷ calls) state low under = given_rise calls (after_call (Disown id) state) low under
+given_rise (Transfer id to ∷ calls) state low under =
+    given_rise calls (after_call (Transfer id to) state) low (rw (last_transferred id to state) under)
 
 given_left : (last : ℕ) (session : Session) (sessions left : List Session) (b : Bool) → All (λ counter. counter ≤ last) (counters (session ∷ sessions))
     → All (λ counter. counter ≤ last) (counters left) → All (λ counter. counter ≤ last) (counters (cond b sessions (session ∷ left)))

@@ -5,7 +5,6 @@ use Rattle.std.proofs.lemmas.Bool.Decides.{nat_tests}
 use Rattle.std.proofs.lemmas.List.{get_or_default}
 use Rattle.std.proofs.lemmas.List.Edits.{remove-append_left}
 use Rattle.sessions.specs.declared.session.Session.{Session}
-use Rattle.sessions.specs.declared.table.TheConstants.{MOST_SESSIONS}
 use Rattle.sessions.specs.Session.{is_unbound}
 use Rattle.sessions.specs.Table.{at_first, without_first, place_to_leave, with_room}
 
@@ -119,7 +118,7 @@ none_of test found read sessions finds same is =
     none_by test sessions (missed (position_or_len test sessions) (length sessions) _ refl at)
 
 -- the one that leaves a list that is given one more
-left_by : (sessions : List Session) (place : ℕ) (session : Session) (room : Bool) → nat_lt (length sessions) MOST_SESSIONS ≡ room
+left_by : (sessions : List Session) (place : ℕ) (session : Session) (room : Bool) → nat_lt (length sessions) 16 ≡ room
     → cond room None (position is_unbound sessions) ≡ Some place
     → remove (sessions ++ session ∷ []) place ≡ cond room sessions (without_first is_unbound sessions) ++ session ∷ []
 left_by sessions place session true test is = absurd cc

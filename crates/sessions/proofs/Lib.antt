@@ -6,4 +6,5 @@ pub mod Room
 pub mod Steps
 pub mod Tidy
 pub mod TokenLemmas
+pub mod Transfers
 pub mod Waiting

@@ -1,5 +1,5 @@
 -- What is kept of the owners.
-use Rattle.std.proofs.Common.{◌≡◌, ℕ, List, [], ◌∷◌, ◌++◌, Bool, true, false, cond, not, Option, Some, None, refl, sym, ◌∙◌, ap, arith}
+use Rattle.std.proofs.Common.{◌≡◌, ℕ, List, [], ◌∷◌, ◌++◌, Bool, true, false, cond, not, Option, Some, None, refl, sym, ◌∙◌, ap, ap₂, arith}
 use Rattle.std.specs.List.{All, filter}
 use Rattle.std.specs.Prelude.{map, ◌==◌, IfSome, is_some}
 use Rattle.std.specs.Option.{option_or}
@@ -10,7 +10,7 @@ use Rattle.sessions.specs.declared.ownership.Ownership.{Ownership}
 use Rattle.sessions.specs.declared.session.Session.{Session}
 use Rattle.sessions.specs.Session.{is_numbered}
 use Rattle.sessions.specs.Sound.{AreApart, IsOwned}
-use Rattle.sessions.specs.Table.{closed, keeps, lives, owned, owned_among, owned_by, owner_among, ownership_of, session_at}
+use Rattle.sessions.specs.Table.{closed, given_to, keeps, lives, owned, owned_among, owned_by, owner_among, ownership_of, session_at}
 use Rattle.sessions.specs.State.{SessionsState}
 
 -- an owner that is kept exists
@@ -153,3 +153,51 @@ leaves id counter ownership state is by =
     kept_among id left state.owned
     ∙ ap (λ kept. among kept left) is
     ∙ ap (λ owner. Some (record ownership { owner = owner })) (ap (owner_among left) by ∙ gone)
+
+-- a subscription that goes to a session that exists has an owner that exists
+given_owner : (id to : ℕ) (sessions : List Session) (ownership : Ownership) → lives to sessions ≡ true → IsOwned sessions ownership
+    → IsOwned sessions (given_to id to ownership)
+given_owner id to sessions ownership exists h = by_test (ownership.id == id)
+  where
+    by_test : (b : Bool) → IsOwned sessions (cond b (record ownership { owner = Some to }) ownership)
+    by_test true = exists
+    by_test false = h
+
+pub owners_given : (id to : ℕ) (sessions : List Session) (owned : List Ownership) → lives to sessions ≡ true → All (IsOwned sessions) owned
+    → All (IsOwned sessions) (map (given_to id to) owned)
+owners_given id to sessions owned exists h =
+    All-map (IsOwned sessions) (given_to id to) owned
+    (All-weaker (IsOwned sessions) (λ ownership. IsOwned sessions (given_to id to ownership))
+    (λ ownership. given_owner id to sessions ownership exists) owned h)
+
+given_id : (id to : ℕ) (ownership : Ownership) → (given_to id to ownership).id ≡ ownership.id
+given_id id to ownership = by_test (ownership.id == id)
+  where
+    by_test : (b : Bool) → (cond b (record ownership { owner = Some to }) ownership).id ≡ ownership.id
+    by_test true = refl
+    by_test false = refl
+
+-- what is kept of a subscription when one is given to a session
+abbrev pub given_kept : ℕ → ℕ → Option Ownership → Option Ownership
+given_kept id to None = None
+given_kept id to (Some ownership) = Some (given_to id to ownership)
+
+given_test : (id to : ℕ) (ownership : Ownership) (more : Option Ownership) (b : Bool)
+    → cond b (Some (given_to id to ownership)) (given_kept id to more) ≡ given_kept id to (cond b (Some ownership) more)
+given_test id to ownership more true = refl
+given_test id to ownership more false = refl
+
+pub kept_given : (other id to : ℕ) (owned : List Ownership) → ownership_of other (map (given_to id to) owned) ≡ given_kept id to (ownership_of other owned)
+kept_given other id to [] = refl
+kept_given other id to (ownership ∷ owned) =
+    ap₂ (λ n more. cond (n == other) (Some (given_to id to ownership)) more) (given_id id to ownership) (kept_given other id to owned)
+    ∙ given_test id to ownership (ownership_of other owned) (ownership.id == other)
+
+pub apart_given : (id to : ℕ) (owned : List Ownership) → AreApart owned → AreApart (map (given_to id to) owned)
+apart_given id to [] apart = tt
+apart_given id to (ownership ∷ owned) apart = (
+  ap (λ n. ownership_of n (map (given_to id to) owned)) (given_id id to ownership)
+      ∙ kept_given ownership.id id to owned
+      ∙ ap (given_kept id to) apart.0,
+  apart_given id to owned apart.1,
+)

@@ -5,7 +5,6 @@ use Rattle.std.specs.Option.{option_or}
 use Rattle.std.proofs.lemmas.Bool.Decides.{nat_tests}
 use Rattle.std.proofs.lemmas.List.Folds.{find-append}
 use Rattle.sessions.specs.declared.session.Session.{Session}
-use Rattle.sessions.specs.declared.table.TheConstants.{MOST_SESSIONS}
 use Rattle.sessions.specs.Session.{is_numbered, is_unbound, new_session}
 use Rattle.sessions.specs.Sound.{IsOldestUnbound, IsSound, RiseAbove, counters}
 use Rattle.sessions.specs.State.{SessionsState}
@@ -47,7 +46,7 @@ stays counter conn uri timeout now session state is bound =
     let new : Session = new_session (state.last_counter + 1) conn uri timeout now in
     find-append (is_numbered counter) (with_room state.sessions) (new ∷ [])
     ∙ ap (λ found. option_or found (session_at counter (new ∷ [])))
-    (stays_room counter state.sessions session (nat_lt (length state.sessions) MOST_SESSIONS) is bound)
+    (stays_room counter state.sessions session (nat_lt (length state.sessions) 16) is bound)
 
 -- a session behind has a higher counter
 above_step : (low counter : ℕ) (first : Session) (more : Option Session) (session : Session) (k : Bool) → (first.counter == counter) ≡ k
@@ -126,5 +125,5 @@ pub leaves_oldest : (counter conn : ℕ) (uri : Option (List ℕ)) (timeout now 
 leaves_oldest counter conn uri timeout now session state h is gone =
     let new : Session = new_session (state.last_counter + 1) conn uri timeout now in
     let whole = find-append (is_numbered counter) (with_room state.sessions) (new ∷ []) in
-    leaves_room counter state.sessions session (nat_lt (length state.sessions) MOST_SESSIONS) h.rise is
+    leaves_room counter state.sessions session (nat_lt (length state.sessions) 16) h.rise is
     (no_front (session_at counter (with_room state.sessions)) (session_at counter (new ∷ [])) (ap is_some (sym whole) ∙ gone))

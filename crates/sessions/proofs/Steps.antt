@@ -7,16 +7,15 @@ use Rattle.std.proofs.lemmas.List.{length-map, map-append}
 use Rattle.std.proofs.lemmas.List.Elements.{All-filter, All-map, All-nil, All-push, All-weaker}
 use Rattle.sessions.specs.declared.ownership.Ownership.{Ownership}
 use Rattle.sessions.specs.declared.session.Session.{Session}
-use Rattle.sessions.specs.declared.table.TheConstants.{MOST_SESSIONS}
-use Rattle.sessions.specs.Calls.{AreAllowed, Call, Create, Activate, Check, Bound, Unbind, Close, Expire, Park, Unpark, Own, Disown, IsAllowed, after_call, after_calls, after_create}
+use Rattle.sessions.specs.Calls.{AreAllowed, Call, Create, Activate, Check, Bound, Unbind, Close, Expire, Park, Unpark, Own, Disown, Transfer, IsAllowed, after_call, after_calls, after_create}
 use Rattle.sessions.specs.Session as one
 use Rattle.sessions.specs.Session.{has_token, is_numbered, is_unbound, lasts_past, new_session}
 use Rattle.sessions.specs.Sound.{AreApart, IsOwned, IsSound, IsTidy, RiseAbove, counters}
 use Rattle.sessions.specs.State.{SessionsState}
-use Rattle.sessions.specs.Table.{are_bound, at_first, created, is_full, keeps, lives, no_sessions, owned_by, session_at, with_room, with_sessions, without_first}
+use Rattle.sessions.specs.Table.{are_bound, at_first, created, given_to, is_full, keeps, lives, may_transfer, no_sessions, owned_by, session_at, transferred, with_room, with_sessions, without_first}
 use Rattle.sessions.proofs.Counters.{Numbers, counters_at_first, counters_map, given_kept, given_without, lives_by_counter, rise_kept, rise_more, rise_without}
 use Rattle.sessions.proofs.Moments.{length_kept}
-use Rattle.sessions.proofs.Owners.{apart_among, apart_more, apart_part, not_kept, owners_among, owners_stay, same_number}
+use Rattle.sessions.proofs.Owners.{apart_among, apart_given, apart_more, apart_part, not_kept, owners_among, owners_given, owners_stay, same_number}
 use Rattle.sessions.proofs.Tidy.{bound_found, tidy_activated, tidy_first, tidy_new, tidy_parked, tidy_requested, tidy_unbound, tidy_unparked, tidy_without}
 
 -- the sessions change, and their counters stay
@@ -42,7 +41,7 @@ sound_changed state after h same tidy =
 
 -- the sessions are others, and what those owned that are no more has no owner
 pub sound_others : (state : SessionsState) (after : List Session) → state.last_counter < 2 ^ 32 → AreApart state.owned → RiseAbove 0 (counters after)
-    → All (λ counter. counter ≤ state.last_counter) (counters after) → length after ≤ MOST_SESSIONS → All IsTidy after
+    → All (λ counter. counter ≤ state.last_counter) (counters after) → length after ≤ 16 → All IsTidy after
     → IsSound (with_sessions after state)
 sound_others state after last apart rise given most tidy = record {
   rise = rise;
@@ -80,9 +79,9 @@ one_leaves : (sessions : List Session) → are_bound sessions ≡ false → leng
 one_leaves [] some = absurd cc
 one_leaves (session ∷ sessions) some = unbound_step session sessions _ refl some (one_leaves sessions)
 
-length_room : (sessions : List Session) (b : Bool) → nat_lt (length sessions) MOST_SESSIONS ≡ b → (not b && are_bound sessions) ≡ false
-    → length sessions ≤ MOST_SESSIONS → length (cond b sessions (without_first is_unbound sessions)) + 1 ≤ MOST_SESSIONS
-length_room sessions true test some most = let room : length sessions < MOST_SESSIONS = grind (arith, nat_tests) in omega arith
+length_room : (sessions : List Session) (b : Bool) → nat_lt (length sessions) 16 ≡ b → (not b && are_bound sessions) ≡ false
+    → length sessions ≤ 16 → length (cond b sessions (without_first is_unbound sessions)) + 1 ≤ 16
+length_room sessions true test some most = let room : length sessions < 16 = grind (arith, nat_tests) in omega arith
 length_room sessions false test some most = let fewer = one_leaves sessions some in omega arith
 
 rise_room : (sessions : List Session) (b : Bool) → RiseAbove 0 (counters sessions)
@@ -106,14 +105,14 @@ neither false second is = (refl, is)
 sound_created : (state : SessionsState) (conn : ℕ) (uri : Option (List ℕ)) (timeout now : ℕ) → IsSound state → is_full state ≡ false
     → IsSound (created conn uri timeout now state)
 sound_created state conn uri timeout now h room =
-    let free = neither (not (nat_lt (length state.sessions) MOST_SESSIONS) && are_bound state.sessions) (state.last_counter == 2 ^ 32 - 1) room in
+    let free = neither (not (nat_lt (length state.sessions) 16) && are_bound state.sessions) (state.last_counter == 2 ^ 32 - 1) room in
     let session : Session = new_session (state.last_counter + 1) conn uri timeout now in
     let left : List Session = with_room state.sessions in
-    let rise : RiseAbove 0 (counters left) = rise_room state.sessions (nat_lt (length state.sessions) MOST_SESSIONS) h.rise in
+    let rise : RiseAbove 0 (counters left) = rise_room state.sessions (nat_lt (length state.sessions) 16) h.rise in
     let given : All (λ counter. counter ≤ state.last_counter) (counters left) =
-    given_room state.last_counter state.sessions (nat_lt (length state.sessions) MOST_SESSIONS) h.given in
-    let most : length left + 1 ≤ MOST_SESSIONS = length_room state.sessions _ refl free.0 h.most in
-    let tidy : All IsTidy left = tidy_room state.sessions (nat_lt (length state.sessions) MOST_SESSIONS) h.tidy in
+    given_room state.last_counter state.sessions (nat_lt (length state.sessions) 16) h.given in
+    let most : length left + 1 ≤ 16 = length_room state.sessions _ refl free.0 h.most in
+    let tidy : All IsTidy left = tidy_room state.sessions (nat_lt (length state.sessions) 16) h.tidy in
     let last = h.last in
     let more : state.last_counter + 1 < 2 ^ 32 = last_more state.last_counter last free.1 in
     let long = length-append left (session ∷ []) in
@@ -166,6 +165,22 @@ sound_owned state id counter (Some session) is h exists fresh =
       apart = apart_more state.owned ownership h.apart (not_kept id state.owned fresh);
     }
 
+-- a subscription goes to a session that exists
+sound_given : (state : SessionsState) (id to : ℕ) → IsSound state → lives to state.sessions ≡ true → IsSound (transferred id to state)
+sound_given state id to h exists = by_test (may_transfer id to state)
+  where
+    by_test : (b : Bool) → IsSound (cond b (record state { owned = map (given_to id to) state.owned }) state)
+    by_test true = record {
+      rise = h.rise;
+      given = h.given;
+      last = h.last;
+      most = h.most;
+      tidy = h.tidy;
+      owners = owners_given id to state.sessions state.owned exists h.owners;
+      apart = apart_given id to state.owned h.apart;
+    }
+    by_test false = h
+
 pub sound_start : (boot : ℕ) → IsSound (no_sessions boot)
 sound_start boot = record {
   rise = tt;
@@ -208,6 +223,7 @@ sound_step (Disown id) state allowed h = record {
   owners = All-filter (λ ownership. not (ownership.id == id)) (IsOwned state.sessions) state.owned h.owners;
   apart = apart_part (λ ownership. not (ownership.id == id)) state.owned h.apart;
 }
+sound_step (Transfer id to) state allowed h = sound_given state id to h allowed
 
 sound_from : (calls : List Call) (state : SessionsState) → AreAllowed calls state → IsSound state → IsSound (after_calls calls state)
 sound_from [] state allowed h = h

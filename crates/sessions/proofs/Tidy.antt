@@ -6,7 +6,6 @@ use Rattle.std.proofs.lemmas.Bool.Decides.{nat_tests}
 use Rattle.std.proofs.lemmas.List.Elements.{All-head, All-tail, All-cons}
 use Rattle.sessions.specs.declared.session.Parked.{Parked}
 use Rattle.sessions.specs.declared.session.Session.{Session}
-use Rattle.sessions.specs.declared.session.TheConstants.{MOST_QUEUED}
 use Rattle.sessions.specs.Session.{activated, activated_on, is_bound_to, may_activate, new_session, requested, unbound, unbound_from, with_parked, without_oldest}
 use Rattle.sessions.specs.Sound.{IsTidy}
 use Rattle.sessions.specs.Table.{at_first, conn_of, without_first}
@@ -22,7 +21,7 @@ pub tidy_requested : (conn now : ℕ) (session : Session) → IsTidy session →
 tidy_requested conn now session h =
     chosen (is_bound_to conn session) (record session { last = now }) session (record { queued = h.queued; bound = h.bound }) h
 
-queued_test : (b : Bool) (queued : List Parked) → length queued ≤ MOST_QUEUED → length (cond b queued []) ≤ MOST_QUEUED
+queued_test : (b : Bool) (queued : List Parked) → length queued ≤ 16 → length (cond b queued []) ≤ 16
 queued_test true queued most = most
 queued_test false queued most = omega arith
 
@@ -35,10 +34,10 @@ pub tidy_unbound : (conn : ℕ) (session : Session) → IsTidy session → IsTid
 tidy_unbound conn session h =
     chosen (is_bound_to conn session) (unbound session) session (record { queued = omega arith; bound = λ none. refl }) h
 
-parked_test : (publish : Parked) (queued : List Parked) (b : Bool) → nat_lt (length queued) MOST_QUEUED ≡ b → length queued ≤ MOST_QUEUED
-    → length (cond b (queued ++ publish ∷ []) (drop 1 queued ++ publish ∷ [])) ≤ MOST_QUEUED
+parked_test : (publish : Parked) (queued : List Parked) (b : Bool) → nat_lt (length queued) 16 ≡ b → length queued ≤ 16
+    → length (cond b (queued ++ publish ∷ []) (drop 1 queued ++ publish ∷ [])) ≤ 16
 parked_test publish queued true test most =
-    let room : length queued < MOST_QUEUED = grind (arith, nat_tests) in
+    let room : length queued < 16 = grind (arith, nat_tests) in
     let long = length-append queued (publish ∷ []) in
     omega arith
 parked_test publish queued false test most =

@@ -1,10 +1,9 @@
 -- What any calls come to.
 use Rattle.std.specs.Prelude.{◌≡◌, ℕ, ◌+◌, ◌-◌, length, drop, List, [], ◌∷◌, ◌++◌, Bool, true, false, Option, IsSome}
 use Rattle.sessions.specs.declared.session.Parked.{Parked}
-use Rattle.sessions.specs.declared.session.TheConstants.{MOST_QUEUED}
 use Rattle.sessions.specs.Session.{with_publish}
 use Rattle.sessions.specs.State.{SessionsState}
-use Rattle.sessions.specs.Table.{activated, closed, conn_of, created, disowned, expired, is_full, keeps, lives, owned, parked, requested, session_at, unbound, unparked}
+use Rattle.sessions.specs.Table.{activated, closed, conn_of, created, disowned, expired, is_full, keeps, lives, owned, parked, requested, session_at, transferred, unbound, unparked}
 
 -- one call that changes the sessions, with the arguments that it is given
 pub data Call : Type 0 where
@@ -19,6 +18,7 @@ pub data Call : Type 0 where
   Unpark : ℕ → Call
   Own : ℕ → ℕ → Call
   Disown : ℕ → Call
+  Transfer : ℕ → ℕ → Call
 
 -- a CreateSession makes a session, unless it is refused
 abbrev pub after_create : Bool → ℕ → Option (List ℕ) → ℕ → ℕ → SessionsState → SessionsState
@@ -37,6 +37,7 @@ after_call (Park session publish) state = parked session publish state
 after_call (Unpark session) state = unparked session state
 after_call (Own id session) state = owned id session state
 after_call (Disown id) state = disowned id state
+after_call (Transfer id to) state = transferred id to state
 
 abbrev pub after_calls : List Call → SessionsState → SessionsState
 after_calls [] state = state
@@ -47,6 +48,7 @@ after_calls (call ∷ calls) state = after_calls calls (after_call call state)
 abbrev pub IsAllowed : Call → SessionsState → Type 0
 IsAllowed (Park session publish) state = IsSome (conn_of (session_at session state.sessions))
 IsAllowed (Own id session) state = (lives session state.sessions ≡ true) × (keeps id state.owned ≡ false)
+IsAllowed (Transfer id to) state = lives to state.sessions ≡ true
 IsAllowed call state = Unit {0}
 
 -- each of the calls is one that may be made after those before it
@@ -75,4 +77,4 @@ with_publishes (publish ∷ publishes) queued = with_publishes publishes (with_p
 
 -- the last Publishes, as many as are queued
 abbrev pub last_publishes : List Parked → List Parked
-last_publishes publishes = drop (length publishes - MOST_QUEUED) publishes
+last_publishes publishes = drop (length publishes - 16) publishes

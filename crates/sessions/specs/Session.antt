@@ -1,11 +1,10 @@
 -- One session, and what each call does to it (OPC 10000-4, 5.6 and 5.13.5).
 use Rattle.std.specs.Prelude.{ℕ, ◌+◌, ◌==◌, ◌||◌, not, nat_lt, length, drop, List, [], ◌∷◌, ◌++◌, Bool, true, false, if◌then◌else◌, Option, Some, None, Result, Ok, Err, slice_get}
-use Rattle.ua_base.specs.declared.status.TheConstants.{BAD_SECURE_CHANNEL_ID_INVALID, BAD_SESSION_NOT_ACTIVATED}
+use Rattle.ua_base.specs.Status.{bad_secure_channel_id_invalid, bad_session_not_activated}
 use Rattle.sessions.specs.declared.fault.SessionFault.{SessionFault}
 use Rattle.sessions.specs.declared.fault.SessionFault.TheVariants.{Code}
 use Rattle.sessions.specs.declared.session.Parked.{Parked}
 use Rattle.sessions.specs.declared.session.Session.{Session}
-use Rattle.sessions.specs.declared.session.TheConstants.{MOST_QUEUED}
 use Rattle.sessions.specs.Token.{is_token_of}
 
 -- a session that was just made: bound to this connection, and not activated (5.6.2)
@@ -50,14 +49,14 @@ requested conn now session = if is_bound_to conn session then record session { l
 
 -- what a request that only wants the session bound is told
 abbrev pub bound_answer : ℕ → Session → Result ℕ ℕ
-bound_answer conn session = if is_bound_to conn session then Ok session.counter else Err BAD_SECURE_CHANNEL_ID_INVALID
+bound_answer conn session = if is_bound_to conn session then Ok session.counter else Err bad_secure_channel_id_invalid
 
 -- what any other request is told: bound, then activated
 abbrev pub activated_answer : Session → Result ℕ ℕ
-activated_answer session = if session.activated then Ok session.counter else Err BAD_SESSION_NOT_ACTIVATED
+activated_answer session = if session.activated then Ok session.counter else Err bad_session_not_activated
 
 abbrev pub check_answer : ℕ → Session → Result ℕ ℕ
-check_answer conn session = if is_bound_to conn session then activated_answer session else Err BAD_SECURE_CHANNEL_ID_INVALID
+check_answer conn session = if is_bound_to conn session then activated_answer session else Err bad_secure_channel_id_invalid
 
 -- a first activation comes on the connection on which the session was made; a later one may come on any (5.6.3)
 abbrev pub may_activate : ℕ → Session → Bool
@@ -65,7 +64,7 @@ may_activate conn session = session.activated || is_bound_to conn session
 
 abbrev pub activate_answer : ℕ → Session → Result ℕ SessionFault
 activate_answer conn session =
-    if may_activate conn session then Ok session.counter else Err (Code BAD_SECURE_CHANNEL_ID_INVALID)
+    if may_activate conn session then Ok session.counter else Err (Code bad_secure_channel_id_invalid)
 
 -- the queued Publishes belong to the connection on which they came
 abbrev pub queued_on : ℕ → Session → List Parked
@@ -97,12 +96,12 @@ lasts_past now session = nat_lt now (moment session)
 -- one Publish more; the oldest goes where the most were queued
 abbrev pub with_publish : Parked → List Parked → List Parked
 with_publish parked queued =
-    if nat_lt (length queued) MOST_QUEUED then queued ++ parked ∷ []
+    if nat_lt (length queued) 16 then queued ++ parked ∷ []
     else drop 1 queued ++ parked ∷ []
 
 -- what one Publish more drives out
 abbrev pub driven_out : List Parked → Option Parked
-driven_out queued = if nat_lt (length queued) MOST_QUEUED then None else slice_get queued 0
+driven_out queued = if nat_lt (length queued) 16 then None else slice_get queued 0
 
 abbrev pub with_parked : Parked → Session → Session
 with_parked parked session = record session { queued = with_publish parked session.queued }

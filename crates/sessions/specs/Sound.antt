@@ -2,8 +2,6 @@
 use Rattle.std.specs.Prelude.{◌≡◌, ℕ, ◌<◌, ◌≤◌, ◌^◌, List, [], ◌∷◌, length, map, All, None, Some, IfSome, true}
 use Rattle.sessions.specs.declared.ownership.Ownership.{Ownership}
 use Rattle.sessions.specs.declared.session.Session.{Session}
-use Rattle.sessions.specs.declared.session.TheConstants.{MOST_QUEUED}
-use Rattle.sessions.specs.declared.table.TheConstants.{MOST_SESSIONS}
 use Rattle.sessions.specs.Session.{is_unbound}
 use Rattle.sessions.specs.State.{SessionsState}
 use Rattle.sessions.specs.Table.{lives, ownership_of, session_at}
@@ -18,7 +16,7 @@ counters sessions = map (λ session. session.counter) sessions
 
 -- at most so many Publishes are queued, and none where the session is bound to no connection
 pub record IsTidy (session : Session) : Type 0 where
-  pub queued : length session.queued ≤ MOST_QUEUED
+  pub queued : length session.queued ≤ 16
   pub bound : session.conn ≡ None → session.queued ≡ []
 
 -- an owner exists
@@ -35,7 +33,7 @@ pub record IsSound (state : SessionsState) : Type 0 where
   pub rise : RiseAbove 0 (counters state.sessions)
   pub given : All (λ counter. counter ≤ state.last_counter) (counters state.sessions)
   pub last : state.last_counter < 2 ^ 32
-  pub most : length state.sessions ≤ MOST_SESSIONS
+  pub most : length state.sessions ≤ 16
   pub tidy : All IsTidy state.sessions
   pub owners : All (IsOwned state.sessions) state.owned
   pub apart : AreApart state.owned

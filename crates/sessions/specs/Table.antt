@@ -1,13 +1,12 @@
 -- What each call does to the sessions of a server (sections are of OPC 10000-4).
-use Rattle.std.specs.Prelude.{ℕ, ◌+◌, ◌-◌, ◌^◌, ◌==◌, ◌&&◌, ◌||◌, not, nat_lt, min, length, List, [], ◌∷◌, ◌++◌, Bool, false, if◌then◌else◌, Option, Some, None, is_some, Result, Err, slice_get, find, position, filter, map}
+use Rattle.std.specs.Prelude.{ℕ, ◌+◌, ◌-◌, ◌^◌, ◌==◌, ◌&&◌, ◌||◌, not, nat_lt, min, length, List, [], ◌∷◌, ◌++◌, Bool, true, false, if◌then◌else◌, Option, Some, None, is_some, Result, Ok, Err, slice_get, bytes_eq, find, position, filter, map}
 use Rattle.std.specs.List.{list_all}
-use Rattle.ua_base.specs.declared.status.TheConstants.{BAD_SESSION_ID_INVALID}
+use Rattle.ua_base.specs.Status.{bad_session_id_invalid, bad_subscription_id_invalid}
 use Rattle.sessions.specs.declared.fault.SessionFault.{SessionFault}
 use Rattle.sessions.specs.declared.fault.SessionFault.TheVariants.{Code}
 use Rattle.sessions.specs.declared.ownership.Ownership.{Ownership}
 use Rattle.sessions.specs.declared.session.Parked.{Parked}
 use Rattle.sessions.specs.declared.session.Session.{Session}
-use Rattle.sessions.specs.declared.table.TheConstants.{MOST_SESSIONS}
 use Rattle.sessions.specs.Session as one
 use Rattle.sessions.specs.Session.{new_session, is_numbered, has_token, is_unbound}
 use Rattle.sessions.specs.State.{SessionsState}
@@ -65,15 +64,15 @@ are_bound sessions = list_all (λ session. not (is_unbound session)) sessions
 
 -- the place of the one that leaves for a further one
 abbrev pub place_to_leave : List Session → Option ℕ
-place_to_leave sessions = if nat_lt (length sessions) MOST_SESSIONS then None else position is_unbound sessions
+place_to_leave sessions = if nat_lt (length sessions) 16 then None else position is_unbound sessions
 
 -- with room for one more: where the most exist, the oldest unbound one goes
 abbrev pub with_room : List Session → List Session
-with_room sessions = if nat_lt (length sessions) MOST_SESSIONS then sessions else without_first is_unbound sessions
+with_room sessions = if nat_lt (length sessions) 16 then sessions else without_first is_unbound sessions
 
 -- no session more is given where the most exist and each is bound, or where the counter stands at its last value
 abbrev pub is_full : SessionsState → Bool
-is_full state = (not (nat_lt (length state.sessions) MOST_SESSIONS) && are_bound state.sessions) || (state.last_counter == 2 ^ 32 - 1)
+is_full state = (not (nat_lt (length state.sessions) 16) && are_bound state.sessions) || (state.last_counter == 2 ^ 32 - 1)
 
 -- CreateSession (5.6.2)
 abbrev pub created : ℕ → Option (List ℕ) → ℕ → ℕ → SessionsState → SessionsState
@@ -88,18 +87,18 @@ answer_of unknown answer (Some session) = answer session
 
 -- ActivateSession (5.6.3)
 abbrev pub activate_answer : Option (List ℕ) → ℕ → SessionsState → Result ℕ SessionFault
-activate_answer token conn state = answer_of (Code BAD_SESSION_ID_INVALID) (one.activate_answer conn) (session_of token state)
+activate_answer token conn state = answer_of (Code bad_session_id_invalid) (one.activate_answer conn) (session_of token state)
 
 abbrev pub activated : Option (List ℕ) → ℕ → ℕ → SessionsState → SessionsState
 activated token conn now state = with_change_of token (one.activated conn now) state
 
 -- any request of a session: its token, its connection, and whether it was activated
 abbrev pub check_answer : Option (List ℕ) → ℕ → SessionsState → Result ℕ ℕ
-check_answer token conn state = answer_of BAD_SESSION_ID_INVALID (one.check_answer conn) (session_of token state)
+check_answer token conn state = answer_of bad_session_id_invalid (one.check_answer conn) (session_of token state)
 
 -- a CloseSession: its token and its connection
 abbrev pub bound_answer : Option (List ℕ) → ℕ → SessionsState → Result ℕ ℕ
-bound_answer token conn state = answer_of BAD_SESSION_ID_INVALID (one.bound_answer conn) (session_of token state)
+bound_answer token conn state = answer_of bad_session_id_invalid (one.bound_answer conn) (session_of token state)
 
 -- a request that passes as far as the connection is the session's last one, even where the session is not activated
 abbrev pub requested : Option (List ℕ) → ℕ → ℕ → SessionsState → SessionsState
@@ -176,3 +175,33 @@ without_id id owned = filter (λ ownership. not (ownership.id == id)) owned
 -- nothing is kept of this subscription
 abbrev pub disowned : ℕ → SessionsState → SessionsState
 disowned id state = record state { owned = without_id id state.owned }
+
+-- whether two texts are one
+abbrev pub same_text : Option (List ℕ) → Option (List ℕ) → Bool
+same_text None None = true
+same_text (Some one) (Some other) = bytes_eq one other
+same_text one other = false
+
+-- a subscription may go to a session of the client that owned it last: the ApplicationUris are one (5.13.7)
+abbrev pub may_own : Option Ownership → Option Session → Bool
+may_own (Some ownership) (Some session) = same_text ownership.uri session.uri
+may_own kept session = false
+
+abbrev pub may_transfer : ℕ → ℕ → SessionsState → Bool
+may_transfer id to state = may_own (ownership_of id state.owned) (session_at to state.sessions)
+
+abbrev pub transfer_told : Bool → Result (Unit {0}) SessionFault
+transfer_told true = Ok tt
+transfer_told false = Err (Code bad_subscription_id_invalid)
+
+-- TransferSubscriptions, of one subscription (5.13.7)
+abbrev pub transfer_answer : ℕ → ℕ → SessionsState → Result (Unit {0}) SessionFault
+transfer_answer id to state = transfer_told (may_transfer id to state)
+
+-- with this owner, where it is the subscription of this id
+abbrev pub given_to : ℕ → ℕ → Ownership → Ownership
+given_to id to ownership = if ownership.id == id then record ownership { owner = Some to } else ownership
+
+abbrev pub transferred : ℕ → ℕ → SessionsState → SessionsState
+transferred id to state =
+    if may_transfer id to state then record state { owned = map (given_to id to) state.owned } else state

@@ -1,16 +1,18 @@
 //! What any calls on a server's sessions come to. Nothing here runs.
-ghost use Rattle.std.specs.Prelude.{◌≡◌, ◌≢◌, ◌<◌, ◌≤◌, ◌-◌, ◌^◌, ℕ, List, [], None, Option, Some, length, false};
+ghost use Rattle.std.specs.Prelude.{◌≡◌, ◌≢◌, ◌<◌, ◌≤◌, ◌-◌, ◌^◌, ℕ, List, [], None, Option, Some, Ok, Err, length, false};
 ghost use Rattle.sessions.specs.declared.ownership.Ownership.{Ownership};
+ghost use Rattle.ua_base.specs.Status.{bad_subscription_id_invalid};
+ghost use Rattle.sessions.specs.declared.fault.SessionFault.TheVariants.{Code};
 ghost use Rattle.sessions.specs.declared.session.Parked.{Parked};
 ghost use Rattle.sessions.specs.declared.session.Session.{Session};
 ghost use Rattle.sessions.specs.Calls.{AreAllowed, Call, IsAllowed, after_call, after_calls, counters_given, last_publishes, with_publishes};
 ghost use Rattle.sessions.specs.Session.{is_unbound};
 ghost use Rattle.sessions.specs.Sound.{IsOldestUnbound, IsSound, RiseAbove};
 ghost use Rattle.sessions.specs.State.{SessionsState};
-ghost use Rattle.sessions.specs.Table.{closed, created, due_of, expired, keeps, lives, no_sessions, owned, ownership_of, session_at, session_of};
+ghost use Rattle.sessions.specs.Table.{closed, created, due_of, expired, keeps, lives, no_sessions, owned, ownership_of, session_at, session_of, transfer_answer, transferred};
 ghost use Rattle.sessions.specs.Token.{token_of};
 
-/// After any calls no two sessions have one counter, at most `MOST_SESSIONS` exist, at most `MOST_QUEUED` Publishes of
+/// After any calls no two sessions have one counter, at most 16 exist, at most 16 Publishes of
 /// each are queued and none of one that is bound to no connection, each owner exists, and no subscription is kept twice.
 /// A Publish is queued only for a session that is bound, as it is where `check` has just passed.
 pub fn stay_sound()
@@ -72,7 +74,24 @@ pub fn oldest_unbound_leaves()
         → lives counter (created conn uri timeout now state).sessions ≡ false → IsOldestUnbound counter session state.sessions }
 {}
 
-/// Of the Publishes that came the last `MOST_QUEUED` are queued, in the order in which they came.
+/// A subscription goes from one session to another exactly where they are of one client, by their ApplicationUris, even
+/// where the first one is no more; what is kept of it is then the same but for its owner.
+pub fn subscriptions_stay_with_their_client()
+    ensures taken { (id to : ℕ) (ownership : Ownership) (session : Session) (state : SessionsState)
+        → ownership_of id state.owned ≡ Some ownership → session_at to state.sessions ≡ Some session
+        → ownership.uri ≡ session.uri
+        → (transfer_answer id to state ≡ Ok tt)
+        × (ownership_of id (transferred id to state).owned ≡ Some (record ownership { owner = Some to })) }
+    ensures refused { (id to : ℕ) (ownership : Ownership) (session : Session) (state : SessionsState)
+        → ownership_of id state.owned ≡ Some ownership → session_at to state.sessions ≡ Some session
+        → ownership.uri ≢ session.uri → transfer_answer id to state ≡ Err (Code bad_subscription_id_invalid) }
+    ensures unknown { (id to : ℕ) (state : SessionsState) → keeps id state.owned ≡ false
+        → transfer_answer id to state ≡ Err (Code bad_subscription_id_invalid) }
+    ensures others { (id to other : ℕ) (state : SessionsState) → other ≢ id
+        → ownership_of other (transferred id to state).owned ≡ ownership_of other state.owned }
+{}
+
+/// Of the Publishes that came the last 16 are queued, in the order in which they came.
 pub fn last_publishes_wait()
     ensures { (publishes : List Parked) → with_publishes publishes [] ≡ last_publishes publishes }
 {}

@@ -5,6 +5,7 @@
 mod fault;
 mod laws;
 mod ownership;
+mod results;
 mod session;
 mod table;
 #[cfg(test)]
@@ -14,8 +15,9 @@ mod tokens;
 pub use fault::SessionFault;
 pub use laws::{
     counters_rise, last_publishes_wait, oldest_unbound_leaves, owners_leave,
-    sessions_expire_when_due, stay_sound, tokens_tell_apart,
+    sessions_expire_when_due, stay_sound, subscriptions_stay_with_their_client, tokens_tell_apart,
 };
+pub use results::AckResults;
 pub use session::{MOST_QUEUED, Parked};
 pub use table::{MOST_SESSIONS, Sessions};
 pub use tokens::token;

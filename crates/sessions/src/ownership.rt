@@ -1,6 +1,6 @@
-ghost use Rattle.std.specs.Prelude.{◌≡◌, find, map};
+ghost use Rattle.std.specs.Prelude.{◌≡◌, Some, find, map};
 ghost use Rattle.std.specs.Option.{option_copied};
-ghost use Rattle.sessions.specs.Table.{owned_among, owner_among, ownership_of};
+ghost use Rattle.sessions.specs.Table.{given_to, may_own, owned_among, owner_among, ownership_of, same_text};
 
 use crate::session::{Session, session_at};
 use ua_values::UaText;
@@ -32,6 +32,14 @@ impl Ownership {
     {
         self.owner = owner_among(sessions, self.owner);
     }
+
+    fn give_to(&mut self, id: u32, to: u32)
+        ensures { self.new ≡ given_to id to self.old }
+    {
+        if self.id == id {
+            self.owner = Some(to);
+        }
+    }
 }
 
 /// Leaves without owner what was owned by a session that is no more.
@@ -48,4 +56,34 @@ pub fn ownership_of(owned: &[Ownership], id: u32) -> Option<&Ownership>
     ensures { option_copied result ≡ ownership_of id owned.now }
 {
     owned.iter().find(|ownership| ownership.id == id)
+}
+
+/// Whether two texts are one.
+fn same_text(one: &UaText, other: &UaText) -> bool
+    ensures { result ≡ same_text one.now other.now }
+{
+    match (one.bytes(), other.bytes()) {
+        (None, None) => true,
+        (Some(one), Some(other)) => one == other,
+        _ => false,
+    }
+}
+
+/// Whether a subscription of which this is kept may go to this session.
+pub fn may_own(kept: Option<&Ownership>, session: Option<&Session>) -> bool
+    ensures { result ≡ may_own (option_copied kept.entry) (option_copied session.entry) }
+{
+    match (kept, session) {
+        (Some(ownership), Some(session)) => same_text(&ownership.uri, &session.uri),
+        _ => false,
+    }
+}
+
+/// Gives a subscription to a session.
+pub fn give_to(owned: &mut Vec<Ownership>, id: u32, to: u32)
+    ensures { owned.new.items ≡ map (given_to id to) owned.old.items }
+{
+    for ownership in owned.iter_mut() {
+        ownership.give_to(id, to);
+    }
 }

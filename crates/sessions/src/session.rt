@@ -4,6 +4,7 @@ ghost use Rattle.sessions.specs.Session.{activate_answer, activated, bound_answe
 ghost use Rattle.sessions.specs.Table.{session_at};
 
 use crate::fault::SessionFault;
+use crate::results::AckResults;
 use crate::tokens::is_token_of;
 use std::alloc::Global;
 use std::marker::Model;
@@ -22,7 +23,7 @@ pub struct Parked {
     /// The handle of its header, which its answer repeats.
     pub handle: u32,
     /// What became of its acknowledgements, one status code for each.
-    pub results: Vec<u32>,
+    pub results: AckResults,
 }
 
 /// The queued Publishes of one session, the oldest first.

@@ -1,15 +1,15 @@
-ghost use Rattle.std.specs.Prelude.{◌≡◌, ◌≢◌, ◌<◌, ◌+◌, [], ◌∷◌, ◌++◌, false, true, not, None, length, position, filter, OnOk, OnErr, IfOk, IfErr, IfSome, map};
-ghost use Rattle.ua_base.specs.declared.status.TheConstants.{BAD_TOO_MANY_SESSIONS};
+ghost use Rattle.std.specs.Prelude.{◌≡◌, ◌≢◌, ◌<◌, ◌+◌, [], ◌∷◌, ◌++◌, false, true, not, None, length, position, filter, OnOk, OnErr, IfOk, IfErr, IfSome, IsSome, map};
+ghost use Rattle.ua_base.specs.Status.{bad_too_many_sessions};
 ghost use Rattle.sessions.specs.Session.{has_token, is_numbered, is_unbound, lasts_past, unbound_from};
-ghost use Rattle.sessions.specs.Table.{activate_answer, activated, are_bound, bound_answer, check_answer, closed, conn_of, created, disowned, driven_out_of, due_of, expired, is_full, keeps, lives, no_sessions, oldest_of, owned, owner_of, ownership_of, parked, place_to_leave, requested, session_at, unbound, unparked, waits, with_room, without_id};
+ghost use Rattle.sessions.specs.Table.{activate_answer, activated, are_bound, bound_answer, check_answer, closed, conn_of, created, disowned, driven_out_of, due_of, expired, is_full, keeps, lives, no_sessions, oldest_of, owned, owner_of, ownership_of, parked, place_to_leave, requested, session_at, transfer_answer, transferred, unbound, unparked, waits, with_room, without_id};
 
 use crate::fault::SessionFault;
-use crate::ownership::{Ownership, keep_owners_among, ownership_of};
+use crate::ownership::{Ownership, give_to, keep_owners_among, may_own, ownership_of};
 use crate::session::{Parked, Session, session_at};
 use std::alloc::Global;
 use std::marker::Model;
 use ua_base::OutOfMemory;
-use ua_base::status::{BAD_SESSION_ID_INVALID, BAD_TOO_MANY_SESSIONS};
+use ua_base::status::{BAD_SESSION_ID_INVALID, BAD_SUBSCRIPTION_ID_INVALID, BAD_TOO_MANY_SESSIONS};
 use ua_values::{UaBytes, UaText};
 
 /// The most sessions that exist at a time.
@@ -188,7 +188,7 @@ impl Sessions {
         ensures counter { IfOk result (λ counter. counter ≡ self.old.last_counter + 1) }
         ensures allowed { OnOk result (is_full self.old ≡ false) }
         ensures refused { IfErr result (λ fault. fault ≢ SessionFault.OutOfMemory
-            → (fault ≡ SessionFault.Code BAD_TOO_MANY_SESSIONS) × (is_full self.old ≡ true)) }
+            → (fault ≡ SessionFault.Code bad_too_many_sessions) × (is_full self.old ≡ true)) }
         ensures unchanged { OnErr result (self.new ≡ self.old) }
     {
         if self.is_full() {
@@ -272,9 +272,9 @@ impl Sessions {
     }
 
     /// Queues a Publish of a session (OPC 10000-4, 5.13.5). Where `MOST_QUEUED` were queued the oldest is answered.
-    /// Where memory is refused the Publish is lost.
+    /// Where memory is refused the Publish is lost. The session is bound, as it is where `check` has just passed.
     pub fn park(&mut self, session: u32, publish: Parked) -> Result<Option<Parked>, OutOfMemory>
-        requires { lives session self.old.sessions ≡ true }
+        requires { IsSome (conn_of (session_at session self.old.sessions)) }
         ensures after { OnOk result (self.new ≡ parked session publish self.old) }
         ensures out { IfOk result (λ out. out ≡ driven_out_of (session_at session self.old.sessions)) }
         ensures unchanged { OnErr result (self.new ≡ self.old) }
@@ -317,6 +317,25 @@ impl Sessions {
         ensures { self.new ≡ disowned id self.old }
     {
         drop_ownership(&mut self.owned, id);
+    }
+
+    /// Gives a subscription to the session `to`, as TransferSubscriptions asks (OPC 10000-4, 5.13.7). It takes no memory:
+    /// the ApplicationUri that is kept is that of `to`.
+    ///
+    /// # Errors
+    /// `Code` with `Bad_SubscriptionIdInvalid` exactly where nothing is kept of the subscription, or where the session
+    /// that owned it last has another ApplicationUri than `to`.
+    pub fn transfer(&mut self, id: u32, to: u32) -> Result<(), SessionFault>
+        requires { lives to self.old.sessions ≡ true }
+        ensures answer { result ≡ transfer_answer id to self.old }
+        ensures after { self.new ≡ transferred id to self.old }
+    {
+        let kept = ownership_of(&self.owned, id);
+        if !may_own(kept, session_at(&self.sessions, to)) {
+            return Err(SessionFault::Code(BAD_SUBSCRIPTION_ID_INVALID));
+        }
+        give_to(&mut self.owned, id, to);
+        Ok(())
     }
 
     /// Whether anything is kept of a subscription: a session owned it, and it was not disowned since.

@@ -1,5 +1,5 @@
 use Rattle.std.proofs.Common.{◌∙◌, sym, ap, refl}
-use Rattle.ua_base.specs.declared.status.TheConstants.{BAD_SESSION_ID_INVALID}
+use Rattle.ua_base.specs.Status.{bad_session_id_invalid}
 use Rattle.sessions.specs.Session as one
 use Rattle.sessions.specs.Table.{answer_of}
 use Rattle.sessions.proofs.Firsts.{first_of, none_of}
@@ -8,7 +8,7 @@ use Rattle.sessions.proofs.table.Sessions.check.Goals as goal
 pub returns-in-Some-clause-answer : goal.returns-in-Some-clause-answer
 returns-in-Some-clause-answer c =
     let h = first_of _ _ _ _ _ _ c.place_of.ensures.place c.deref.ensures.value c.in-Some.is c.index_mut.ensures.value in
-    rw (← c.self.view_is) (c.check.ensures.answer ∙ sym (ap (answer_of BAD_SESSION_ID_INVALID (one.check_answer c.args.conn)) h.found))
+    rw (← c.self.view_is) (c.check.ensures.answer ∙ sym (ap (answer_of bad_session_id_invalid (one.check_answer c.args.conn)) h.found))
 
 pub returns-in-Some-clause-after : goal.returns-in-Some-clause-after
 returns-in-Some-clause-after c =
