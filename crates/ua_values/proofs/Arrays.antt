@@ -3,7 +3,8 @@ use Rattle.std.proofs.Common.{◌≡◌, ℕ, zero, suc, ◌^◌, ◌≤◌, ◌
 use Rattle.std.proofs.lemmas.Bool.Decides.{nat_tests}
 use Rattle.std.proofs.lemmas.List.{append-nil}
 use Rattle.byteorder.specs.Endian.{little_number}
-use Rattle.ua_values.specs.declared.fault.TheConstants.{MOST_ITEMS}
+use Rattle.ua_base.specs.Status.{bad_encoding_limits_exceeded}
+use Rattle.ua_values.specs.Limits.{most_items}
 use Rattle.ua_values.specs.Reading.{Reader, give, field_at}
 use Rattle.ua_values.specs.Parts.{number, Chained, elements, array_within, array, IsRefused}
 use Rattle.ua_values.specs.Codec.{IsCodec}
@@ -36,7 +37,7 @@ elements_codec S at (suc n) codec =
 -- ---- the length
 
 abbrev pub judged_count : Bool → Bool → ℕ → Result ℕ ℕ
-judged_count b c n = cond b (Ok 0) (cond c (Err 0x80080000) (Ok n))
+judged_count b c n = cond b (Ok 0) (cond c (Err bad_encoding_limits_exceeded) (Ok n))
 
 -- a negative number, or the count
 abbrev pub CountSays : ℕ → ℕ → ℕ → Type 0
@@ -52,7 +53,7 @@ count_says false false most n k p q e =
 
 count_refuses : (b c : Bool) (n code : ℕ) → judged_count b c n ≡ Err code → IsRefused code 4
 count_refuses true c n code e = absurd cc
-count_refuses false true n code e = let is : code ≡ 0x80080000 = cc in inr (inl (is, refl))
+count_refuses false true n code e = let is : code ≡ bad_encoding_limits_exceeded = cc in inr (inl (is, refl))
 count_refuses false false n code e = absurd cc
 
 count_none : (most n : ℕ) → 2 ^ 31 ≤ n → count_of most n ≡ Ok 0
@@ -103,4 +104,4 @@ array_within_codec most small S at codec = same (Chained (field 4 (count_of most
     (chain (field 4 (count_of most)) (field_at 4 (count_of most)) (Elements S) (λ n. elements_at n at) (field_codec 4 (count_of most) (count_field most)) (λ n. elements_codec S at n codec))
 
 pub array_codec : {A : Type 0} (S : A → List ℕ → Type 0) (at : Reader A) → IsCodec S at → IsCodec (array S) (array_at at)
-array_codec S at codec = array_within_codec MOST_ITEMS (omega arith) S at codec
+array_codec S at codec = array_within_codec most_items (omega arith) S at codec

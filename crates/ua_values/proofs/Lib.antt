@@ -7,3 +7,4 @@ pub mod Answers
 pub mod WrittenLemmas
 pub mod Arrays
 pub mod ArrayLoop
+pub mod Bits

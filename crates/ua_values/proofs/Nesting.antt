@@ -2,10 +2,11 @@
 use Rattle.std.proofs.Common.{◌≡◌, ℕ, zero, suc, ◌+◌, ◌^◌, ◌≤◌, ◌<◌, Bool, true, false, List, [], ◌∷◌, ◌++◌, length, take, drop, Result, Ok, Err, refl, sym, ap, subst, ◌∙◌, arith, inl, inr}
 use Rattle.std.proofs.lemmas.List.{append-nil, length-append, take-append-le}
 use Rattle.std.proofs.Math.Seq.{take-append_seam}
+use Rattle.ua_values.specs.Limits.{most_items}
 use Rattle.ua_values.specs.Reading.{Input, input, Reader, Fault, Short, Bad, passed, ◌>>=◌, give, judged, field_at}
-use Rattle.ua_values.specs.Parts.{number, optional, Chained, CutAfter, ChainCut, array_within, elements_cut, array_cut, optional_cut, IsRefused}
+use Rattle.ua_values.specs.Parts.{number, optional, Chained, CutAfter, ChainCut, array_within, array, elements_cut, array_cut, optional_cut, IsRefused}
 use Rattle.ua_values.specs.Codec.{Took, Faulty, Reads}
-use Rattle.ua_values.specs.Readers.{count_of, elements_at, array_within_at, optional_at, refused_at, checked_at}
+use Rattle.ua_values.specs.Readers.{count_of, elements_at, array_within_at, array_at, optional_at, refused_at, checked_at}
 use Rattle.ua_values.proofs.Chain.{reads_on, reads_as, cut_front}
 use Rattle.ua_values.proofs.Leaves.{no_ok, short_not_bad, judged_ok, judged_bad, judged_not_short, given, give_codec, field, field_reads}
 use Rattle.ua_values.proofs.Fields.{Mapped, MadeOf}
@@ -106,6 +107,10 @@ array_reads most small S C at reader =
     (array_from most small S)
     (counted_cut most S C)
     (reads_on (field 4 (count_of most)) (λ front. length front < 4) (field_at 4 (count_of most)) (Elements S) (λ n. elements_cut S C n) (λ n. elements_at n at) (field_reads 4 (count_of most) (count_field most)) (λ n. elements_reads S C at n reader))
+
+-- an array of as many elements as any may have
+pub list_reads : {A : Type 0} (S : A → List ℕ → Type 0) (C : List ℕ → Type 0) (at : Reader A) → Reads S C at → Reads (array S) (array_cut most_items S C) (array_at at)
+list_reads S C at reader = array_reads most_items (omega arith) S C at reader
 
 -- ---- what is judged as a whole
 

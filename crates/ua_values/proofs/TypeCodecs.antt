@@ -6,6 +6,8 @@ use Rattle.std.proofs.lemmas.Bool.Decides.{nat_tests}
 use Rattle.std.proofs.lemmas.List.{append-nil}
 use Rattle.byteorder.specs.Endian.{little_number}
 use Rattle.uuid.specs.Parts.{swap_fields}
+use Rattle.ua_base.specs.Status.{bad_decoding_error, bad_encoding_limits_exceeded}
+use Rattle.ua_values.specs.Limits.{most_bytes}
 use Rattle.ua_values.specs.declared.node.NodeId.TheVariants as node
 use Rattle.ua_values.specs.declared.node.Form.{Form}
 use Rattle.ua_values.specs.declared.node.Form.TheVariants as form
@@ -81,33 +83,33 @@ some_is a b e = cc
 
 abbrev LengthSays : ℕ → Option ℕ → Type 0
 LengthSays n None = 2 ^ 31 ≤ n
-LengthSays n (Some k) = (n ≡ k) × (k ≤ 1048576)
+LengthSays n (Some k) = (n ≡ k) × (k ≤ most_bytes)
 
 length_null : (n : ℕ) → 2 ^ 31 ≤ n → length_of n ≡ Ok None
 length_null n le = let test : leb (2 ^ 31) n ≡ true = grind (arith, nat_tests) in rw test refl
 
-length_some : (n : ℕ) → n ≤ 1048576 → length_of n ≡ Ok (Some n)
+length_some : (n : ℕ) → n ≤ most_bytes → length_of n ≡ Ok (Some n)
 length_some n le =
     let negative : leb (2 ^ 31) n ≡ false = grind (arith, nat_tests) in
-    let large : ltb 1048576 n ≡ false = grind (arith, nat_tests) in
+    let large : ltb most_bytes n ≡ false = grind (arith, nat_tests) in
     rw (negative, large) refl
 
 abbrev judged_length : Bool → Bool → ℕ → Result (Option ℕ) ℕ
-judged_length b c n = cond b (Ok None) (cond c (Err 0x80080000) (Ok (Some n)))
+judged_length b c n = cond b (Ok None) (cond c (Err bad_encoding_limits_exceeded) (Ok (Some n)))
 
-length_says : (b c : Bool) (n : ℕ) (m : Option ℕ) → leb (2 ^ 31) n ≡ b → ltb 1048576 n ≡ c → judged_length b c n ≡ Ok m → LengthSays n m
+length_says : (b c : Bool) (n : ℕ) (m : Option ℕ) → leb (2 ^ 31) n ≡ b → ltb most_bytes n ≡ c → judged_length b c n ≡ Ok m → LengthSays n m
 length_says true c n None p q e = grind (arith, nat_tests)
 length_says true c n (Some k) p q e = absurd cc
 length_says false true n m p q e = absurd cc
 length_says false false n None p q e = absurd cc
 length_says false false n (Some k) p q e =
     let is : n ≡ k = cc in
-    let within : n ≤ 1048576 = grind (arith, nat_tests) in
+    let within : n ≤ most_bytes = grind (arith, nat_tests) in
     (is, omega arith)
 
 length_refuses : (b c : Bool) (n : ℕ) (code : ℕ) → judged_length b c n ≡ Err code → IsRefused code 4
 length_refuses true c n code e = absurd cc
-length_refuses false true n code e = let is : code ≡ 0x80080000 = cc in inr (inl (is, refl))
+length_refuses false true n code e = let is : code ≡ bad_encoding_limits_exceeded = cc in inr (inl (is, refl))
 length_refuses false false n code e = absurd cc
 
 -- a length that is cut off may be a negative one
@@ -122,7 +124,7 @@ length_field : IsField 4 length_of
 length_field = record {
   some = omega arith;
   completes = cut_length;
-  refuses = λ n code e. length_refuses (leb (2 ^ 31) n) (ltb 1048576 n) n code e;
+  refuses = λ n code e. length_refuses (leb (2 ^ 31) n) (ltb most_bytes n) n code e;
 }
 
 abbrev run_text : Option ℕ → Option (List ℕ) → List ℕ → Type 0
@@ -192,7 +194,7 @@ refused false a r c e = e
 form_is : (n : ℕ) (f : Form) → form_of n ≡ Ok f → n ≡ form_byte f
 form_is n f =
     tested form_byte n 0 form.TwoByte f _ refl (tested form_byte n 1 form.FourByte f _ refl (tested form_byte n 2 form.Long f _ refl
-    (tested form_byte n 3 form.Text f _ refl (tested form_byte n 4 form.Guid f _ refl (tested form_byte n 5 form.Opaque f (Err 0x80070000) refl (λ e. absurd (failed_not f 0x80070000 e)))))))
+    (tested form_byte n 3 form.Text f _ refl (tested form_byte n 4 form.Guid f _ refl (tested form_byte n 5 form.Opaque f (Err bad_decoding_error) refl (λ e. absurd (failed_not f bad_decoding_error e)))))))
 
 form_refuses : (n code : ℕ) → form_of n ≡ Err code → IsRefused code 1
 form_refuses n code e =
@@ -201,8 +203,8 @@ form_refuses n code e =
     let three = refused (eqb n 2) form.Long _ code two in
     let four = refused (eqb n 3) form.Text _ code three in
     let five = refused (eqb n 4) form.Guid _ code four in
-    let six = refused (eqb n 5) form.Opaque (Err 0x80070000) code five in
-    inl (sym (err_is {A = Form} 0x80070000 code six), refl)
+    let six = refused (eqb n 5) form.Opaque (Err bad_decoding_error) code five in
+    inl (sym (err_is {A = Form} bad_decoding_error code six), refl)
 
 form_says : (f : Form) → form_of (form_byte f) ≡ Ok f
 form_says form.TwoByte = refl
@@ -296,14 +298,14 @@ localized_codec = chain (number 1) (number_at 1) mask_body _ byte_codec mask_bod
 
 kind_is : (n : ℕ) (k : BodyKind) → kind_of n ≡ Ok k → n ≡ kind_byte k
 kind_is n k =
-    tested kind_byte n 0 kind.Absent k _ refl (tested kind_byte n 1 kind.Binary k _ refl (tested kind_byte n 2 kind.Xml k (Err 0x80070000) refl (λ e. absurd (failed_not k 0x80070000 e))))
+    tested kind_byte n 0 kind.Absent k _ refl (tested kind_byte n 1 kind.Binary k _ refl (tested kind_byte n 2 kind.Xml k (Err bad_decoding_error) refl (λ e. absurd (failed_not k bad_decoding_error e))))
 
 kind_refuses : (n code : ℕ) → kind_of n ≡ Err code → IsRefused code 1
 kind_refuses n code e =
     let one = refused (eqb n 0) kind.Absent _ code e in
     let two = refused (eqb n 1) kind.Binary _ code one in
-    let three = refused (eqb n 2) kind.Xml (Err 0x80070000) code two in
-    inl (sym (err_is {A = BodyKind} 0x80070000 code three), refl)
+    let three = refused (eqb n 2) kind.Xml (Err bad_decoding_error) code two in
+    inl (sym (err_is {A = BodyKind} bad_decoding_error code three), refl)
 
 kind_says : (k : BodyKind) → kind_of (kind_byte k) ≡ Ok k
 kind_says kind.Absent = refl

@@ -24,7 +24,7 @@ use Rattle.ua_values.specs.declared.extension.ExtensionObject.{ExtensionObject}
 use Rattle.ua_values.specs.declared.extension.ExtensionBody.{ExtensionBody}
 use Rattle.ua_values.specs.declared.extension.ExtensionBody.TheVariants as extension
 use Rattle.ua_values.specs.declared.extension.BodyKind.TheVariants as kind
-use Rattle.ua_values.specs.declared.fault.TheConstants.{MOST_ITEMS}
+use Rattle.ua_values.specs.Limits.{most_items}
 use Rattle.ua_values.specs.Reading.{Reader, sized}
 use Rattle.ua_values.specs.Parts.{number, exactly, optional, ◌followed_by◌, text, elements, array_within, array, Begun}
 use Rattle.ua_values.specs.Codec.{Reads, IsCodec}
@@ -213,4 +213,4 @@ array_within_spelled most small keeps spells written each items kept =
 
 pub array_spelled : {A : Type 0} (keeps : A → Type 0) (spells : A → List ℕ → Type 0) (written : A → List ℕ) → ((a : A) → keeps a → spells a (written a))
     → (items : List A) → KeepsArray keeps items → array spells items (written_array written items)
-array_spelled keeps spells written each items kept = array_within_spelled MOST_ITEMS (omega arith) keeps spells written each items kept
+array_spelled keeps spells written each items kept = array_within_spelled most_items (omega arith) keeps spells written each items kept

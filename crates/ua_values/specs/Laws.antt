@@ -1,7 +1,7 @@
 -- What holds of each type's grammar, reader and written spelling.
 use Rattle.std.specs.Prelude.{◌≡◌, ◌<◌, ◌≤◌, ℕ, ◌^◌, List, [], ◌++◌, length, Option, Ok, IfSome}
 use Rattle.std.specs.List.{AllByRecursion}
-use Rattle.ua_values.specs.declared.fault.TheConstants.{MOST_BYTES, MOST_ITEMS}
+use Rattle.ua_values.specs.Limits.{most_bytes, most_items}
 use Rattle.ua_values.specs.declared.node.NodeId.{NodeId}
 use Rattle.ua_values.specs.declared.node.NodeId.TheVariants as node
 use Rattle.ua_values.specs.declared.node.ExpandedNodeId.{ExpandedNodeId}
@@ -15,7 +15,7 @@ use Rattle.ua_values.specs.Reading.{input, Reader, sized}
 -- ---- which values keep the rules on lengths, and have numbers that their types hold
 
 abbrev pub KeepsText : Option (List ℕ) → Type 0
-KeepsText o = IfSome o (λ run. length run ≤ MOST_BYTES)
+KeepsText o = IfSome o (λ run. length run ≤ most_bytes)
 
 abbrev pub KeepsGuid : List ℕ → Type 0
 KeepsGuid g = length g ≡ 16
@@ -48,7 +48,7 @@ abbrev pub KeepsArrayWithin : {A : Type 0} → ℕ → (A → Type 0) → List A
 KeepsArrayWithin most keeps items = (length items ≤ most) × AllByRecursion keeps items
 
 abbrev pub KeepsArray : {A : Type 0} → (A → Type 0) → List A → Type 0
-KeepsArray keeps items = KeepsArrayWithin MOST_ITEMS keeps items
+KeepsArray keeps items = KeepsArrayWithin most_items keeps items
 
 -- ---- the laws
 

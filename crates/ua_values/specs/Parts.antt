@@ -1,7 +1,8 @@
 -- The parts that spellings are made of. A spelling relates a value to bytes: a value may have several, bytes have one value at most.
 use Rattle.std.specs.Prelude.{◌≡◌, ◌≤◌, ◌<◌, ℕ, zero, suc, ◌^◌, List, [], ◌∷◌, ◌++◌, ◌+◌, ◌*◌, length, Bool, true, false, Option, Some, None, ◌⊎◌}
 use Rattle.byteorder.specs.Endian.{little_number}
-use Rattle.ua_values.specs.declared.fault.TheConstants.{MOST_BYTES, MOST_ITEMS}
+use Rattle.ua_base.specs.Status.{bad_decoding_error, bad_encoding_limits_exceeded}
+use Rattle.ua_values.specs.Limits.{most_bytes, most_items}
 
 -- a number as so many bytes, the lowest first
 abbrev pub number : ℕ → ℕ → List ℕ → Type 0
@@ -39,7 +40,7 @@ optional false blank spells a bytes = (a ≡ blank) × nothing bytes
 -- else a length up to the limit, and so many bytes
 abbrev pub text : Option (List ℕ) → List ℕ → Type 0
 text None bytes = (n : ℕ) × (2 ^ 31 ≤ n) × number 4 n bytes
-text (Some run) bytes = (length run ≤ MOST_BYTES) × (number 4 (length run) followed_by exactly run) bytes
+text (Some run) bytes = (length run ≤ most_bytes) × (number 4 (length run) followed_by exactly run) bytes
 
 -- elements one after the other
 abbrev pub elements : {A : Type 0} → (A → List ℕ → Type 0) → List A → List ℕ → Type 0
@@ -53,16 +54,16 @@ array_within most spells items bytes =
     ⊎ ((length items ≤ most) × (number 4 (length items) followed_by elements spells items) bytes)
 
 abbrev pub array : {A : Type 0} → (A → List ℕ → Type 0) → List A → List ℕ → Type 0
-array spells = array_within MOST_ITEMS spells
+array spells = array_within most_items spells
 
 -- which code a field of so many bytes may be refused with: a byte that chooses, or a length; in values that hold others
 -- also a list of dimensions, or a value that stands too deep, before its first byte
 abbrev pub IsRefused : ℕ → ℕ → Type 0
 IsRefused code width =
-    ((code ≡ 0x80070000) × (width ≡ 1))
-    ⊎ ((code ≡ 0x80080000) × (width ≡ 4))
-    ⊎ ((code ≡ 0x80070000) × (n : ℕ) × (width ≡ 4 + n * 4))
-    ⊎ ((code ≡ 0x80080000) × (width ≡ 0))
+    ((code ≡ bad_decoding_error) × (width ≡ 1))
+    ⊎ ((code ≡ bad_encoding_limits_exceeded) × (width ≡ 4))
+    ⊎ ((code ≡ bad_decoding_error) × (n : ℕ) × (width ≡ 4 + n * 4))
+    ⊎ ((code ≡ bad_encoding_limits_exceeded) × (width ≡ 0))
 
 -- a choice is spelled, and the bytes end inside what follows it
 pub record CutAfter {A : Type 0} (chooses : A → List ℕ → Type 0) (cut : A → List ℕ → Type 0) (bytes : List ℕ) : Type 0 where

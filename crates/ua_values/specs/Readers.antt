@@ -1,8 +1,9 @@
 -- A reader for each type, field by field.
-use Rattle.std.specs.Prelude.{◌≡◌, ◌==◌, ℕ, zero, suc, ◌/◌, ◌%◌, ◌^◌, ℤ, nat_lt, nat_le, not, List, [], ◌∷◌, Bool, true, false, Option, Some, None, Result, Ok, Err, if◌then◌else◌}
+use Rattle.std.specs.Prelude.{◌≡◌, ◌==◌, ℕ, zero, suc, ◌/◌, ◌%◌, ◌^◌, ℤ, nat_lt, nat_le, not, ◌||◌, List, [], ◌∷◌, Bool, true, false, Option, Some, None, Result, Ok, Err, if◌then◌else◌}
 use Rattle.std.specs.Int.{Width, cast_signed}
 use Rattle.uuid.specs.Parts.{swap_fields}
-use Rattle.ua_values.specs.declared.fault.TheConstants.{MOST_BYTES, MOST_ITEMS}
+use Rattle.ua_base.specs.Status.{bad_decoding_error, bad_encoding_limits_exceeded}
+use Rattle.ua_values.specs.Limits.{most_bytes, most_items}
 use Rattle.ua_values.specs.declared.node.NodeId.{NodeId}
 use Rattle.ua_values.specs.declared.node.NodeId.TheVariants as node
 use Rattle.ua_values.specs.declared.node.Form.{Form}
@@ -38,7 +39,7 @@ guid_at = do
 abbrev pub length_of : ℕ → Result (Option ℕ) ℕ
 length_of n =
     if nat_le (2 ^ 31) n then Ok None
-    else if nat_lt MOST_BYTES n then Err 0x80080000
+    else if nat_lt most_bytes n then Err bad_encoding_limits_exceeded
     else Ok (Some n)
 
 abbrev pub run_of : Option ℕ → Reader (Option (List ℕ))
@@ -56,7 +57,7 @@ text_at = do
 abbrev pub count_of : ℕ → ℕ → Result ℕ ℕ
 count_of most n =
     if nat_le (2 ^ 31) n then Ok 0
-    else if nat_lt most n then Err 0x80080000
+    else if nat_lt most n then Err bad_encoding_limits_exceeded
     else Ok n
 
 abbrev pub elements_at : {A : Type 0} → ℕ → Reader A → Reader (List A)
@@ -73,7 +74,7 @@ array_within_at most at = do
   elements_at n at
 
 abbrev pub array_at : {A : Type 0} → Reader A → Reader (List A)
-array_at at = array_within_at MOST_ITEMS at
+array_at at = array_within_at most_items at
 
 abbrev pub form_of : ℕ → Result Form ℕ
 form_of byte =
@@ -83,7 +84,7 @@ form_of byte =
     else if byte == 3 then Ok form.Text
     else if byte == 4 then Ok form.Guid
     else if byte == 5 then Ok form.Opaque
-    else Err 0x80070000
+    else Err bad_decoding_error
 
 abbrev pub form_body_at : Form → Reader NodeId
 form_body_at form.TwoByte = do
@@ -114,6 +115,10 @@ abbrev pub node_at : Reader NodeId
 node_at = do
   f ← field_at 1 form_of
   form_body_at f
+
+-- what a bit of a byte may be worth
+abbrev pub is_worth : ℕ → Bool
+is_worth n = n == 1 || n == 2 || n == 4 || n == 8 || n == 16 || n == 32 || n == 64 || n == 128
 
 -- the bit that is worth so much
 abbrev pub has_bit : ℕ → ℕ → Bool
@@ -156,7 +161,7 @@ kind_of byte =
     if byte == 0 then Ok kind.Absent
     else if byte == 1 then Ok kind.Binary
     else if byte == 2 then Ok kind.Xml
-    else Err 0x80070000
+    else Err bad_decoding_error
 
 abbrev pub kind_body_at : BodyKind → Reader ExtensionBody
 kind_body_at kind.Absent = give extension.Absent

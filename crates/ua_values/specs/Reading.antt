@@ -1,5 +1,5 @@
 -- Readers of values at the front of bytes, with the place of the first fault.
-use Rattle.std.specs.Prelude.{◌≡◌, ℕ, ◌+◌, nat_lt, List, length, take, drop, Result, Ok, Err, if◌then◌else◌}
+use Rattle.std.specs.Prelude.{◌≡◌, ◌≢◌, ℕ, ◌+◌, nat_lt, List, length, take, drop, Result, Ok, Err, if◌then◌else◌}
 use Rattle.byteorder.specs.Endian.{little_number}
 use Rattle.ua_values.specs.declared.fault.ValueFault.{ValueFault}
 use Rattle.ua_values.specs.declared.fault.ValueFault.TheVariants as faults
@@ -63,6 +63,10 @@ Fails (faults.Bad place code) read = read ≡ Err (Bad place code)
 abbrev pub Moves : {X Y : Type 0} → (X → Y) → Result X ValueFault → Input → Result (Y × Input) Fault → Type 0
 Moves view (Ok x) after read = read ≡ Ok (view x, after)
 Moves view (Err e) after read = Fails e read
+
+-- want of memory is never what is answered
+abbrev pub TakesNoMemory : {X : Type 0} → Result X ValueFault → Type 0
+TakesNoMemory result = result ≢ Err faults.OutOfMemory
 
 -- a value, and where the next one begins
 abbrev pub with_place : {A E : Type 0} → Result A E → ℕ → Result (A × ℕ) E

@@ -73,6 +73,6 @@ fn put_elements<T: Element>(items: &[T], to: &mut Vec<u8>) -> Result<(), OutOfMe
 pub fn put_array<T: Element>(items: &[T], to: &mut Vec<u8>) -> Result<(), OutOfMemory>
     ensures { OnOk result (to.new.items ≡ to.old.items ++ written_array T.written items.now) }
 {
-    write_uint32((items.len() as u64 % (1 << 32)) as u32, to)?;
+    write_uint32((items.len() as u64 & 0xFFFF_FFFF) as u32, to)?;
     put_elements(items, to)
 }

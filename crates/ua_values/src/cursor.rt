@@ -1,6 +1,7 @@
 ghost use Rattle.std.specs.Prelude.{◌≡◌, None, option_map};
 ghost use Rattle.std.specs.Int.{w8, w16, w32, w64};
-ghost use Rattle.ua_values.specs.Reading.{input, with_place, Moves, run_at, field_at, number_at};
+ghost use Rattle.ua_base.specs.Status.{bad_decoding_error};
+ghost use Rattle.ua_values.specs.Reading.{input, with_place, Moves, TakesNoMemory, run_at, field_at, number_at};
 ghost use Rattle.ua_values.specs.Readers.{boolean_at, signed_at, guid_at, length_of, count_of, text_at, form_of, form_body_at, node_at, head_of, optional_at, expanded_at, qualified_at, localized_at, kind_of, body_at, extension_at};
 ghost use Rattle.ua_values.specs.declared.fault.ValueFault.TheVariants as faults;
 
@@ -63,7 +64,8 @@ impl<'a> Cursor<'a> {
 
     /// The next bytes, so many.
     fn run(&mut self, count: usize) -> Result<&'a [u8], ValueFault>
-        ensures { Moves (λ run. run.now) result self.new (run_at count self.old) }
+        ensures exact { Moves (λ run. run.now) result self.new (run_at count self.old) }
+        ensures memory { TakesNoMemory result }
     {
         if self.rest.len() < count {
             return Err(ValueFault::Short);
@@ -76,70 +78,80 @@ impl<'a> Cursor<'a> {
 
     /// A Byte.
     pub fn byte(&mut self) -> Result<u8, ValueFault>
-        ensures { Moves (λ n. n) result self.new (number_at 1 self.old) }
+        ensures exact { Moves (λ n. n) result self.new (number_at 1 self.old) }
+        ensures memory { TakesNoMemory result }
     {
         Ok(self.run(1)?[0])
     }
 
     /// A UInt16.
     pub fn uint16(&mut self) -> Result<u16, ValueFault>
-        ensures { Moves (λ n. n) result self.new (number_at 2 self.old) }
+        ensures exact { Moves (λ n. n) result self.new (number_at 2 self.old) }
+        ensures memory { TakesNoMemory result }
     {
         Ok(LittleEndian::read_u16(self.run(2)?))
     }
 
     /// A UInt32, or the bits of a Float.
     pub fn uint32(&mut self) -> Result<u32, ValueFault>
-        ensures { Moves (λ n. n) result self.new (number_at 4 self.old) }
+        ensures exact { Moves (λ n. n) result self.new (number_at 4 self.old) }
+        ensures memory { TakesNoMemory result }
     {
         Ok(LittleEndian::read_u32(self.run(4)?))
     }
 
     /// A UInt64, or the bits of a Double.
     pub fn uint64(&mut self) -> Result<u64, ValueFault>
-        ensures { Moves (λ n. n) result self.new (number_at 8 self.old) }
+        ensures exact { Moves (λ n. n) result self.new (number_at 8 self.old) }
+        ensures memory { TakesNoMemory result }
     {
         Ok(LittleEndian::read_u64(self.run(8)?))
     }
 
     /// An SByte.
     pub fn sbyte(&mut self) -> Result<i8, ValueFault>
-        ensures { Moves (λ z. z) result self.new (signed_at 1 w8 self.old) }
+        ensures exact { Moves (λ z. z) result self.new (signed_at 1 w8 self.old) }
+        ensures memory { TakesNoMemory result }
     {
         Ok(self.byte()?.cast_signed())
     }
 
     /// An Int16.
     pub fn int16(&mut self) -> Result<i16, ValueFault>
-        ensures { Moves (λ z. z) result self.new (signed_at 2 w16 self.old) }
+        ensures exact { Moves (λ z. z) result self.new (signed_at 2 w16 self.old) }
+        ensures memory { TakesNoMemory result }
     {
         Ok(self.uint16()?.cast_signed())
     }
 
     /// An Int32, or an enumeration.
     pub fn int32(&mut self) -> Result<i32, ValueFault>
-        ensures { Moves (λ z. z) result self.new (signed_at 4 w32 self.old) }
+        ensures exact { Moves (λ z. z) result self.new (signed_at 4 w32 self.old) }
+        ensures memory { TakesNoMemory result }
     {
         Ok(self.uint32()?.cast_signed())
     }
 
     /// An Int64, or a DateTime in 100 nanoseconds since 1601-01-01 UTC.
     pub fn int64(&mut self) -> Result<i64, ValueFault>
-        ensures { Moves (λ z. z) result self.new (signed_at 8 w64 self.old) }
+        ensures exact { Moves (λ z. z) result self.new (signed_at 8 w64 self.old) }
+        ensures memory { TakesNoMemory result }
     {
         Ok(self.uint64()?.cast_signed())
     }
 
     /// A Boolean: every byte but 0 is true.
     pub fn boolean(&mut self) -> Result<bool, ValueFault>
-        ensures { Moves (λ b. b) result self.new (boolean_at self.old) }
+        ensures exact { Moves (λ b. b) result self.new (boolean_at self.old) }
+        ensures memory { TakesNoMemory result }
     {
         Ok(self.byte()? != 0)
     }
 
     /// A Guid.
     pub fn guid(&mut self) -> Result<Uuid, ValueFault>
-        ensures { Moves (λ g. g) result self.new (guid_at self.old) }
+        ensures exact { Moves (λ g. g) result self.new (guid_at self.old) }
+        ensures memory { TakesNoMemory result }
     {
         let run = self.run(16)?;
         Ok(Uuid::from_bytes_le([
@@ -150,7 +162,8 @@ impl<'a> Cursor<'a> {
 
     /// The length of a text or a ByteString, or None where it is negative.
     fn length(&mut self) -> Result<Option<usize>, ValueFault>
-        ensures { Moves (λ n. n) result self.new (field_at 4 length_of self.old) }
+        ensures exact { Moves (λ n. n) result self.new (field_at 4 length_of self.old) }
+        ensures memory { TakesNoMemory result }
     {
         let place = self.place;
         let length = self.uint32()?;
@@ -168,7 +181,8 @@ impl<'a> Cursor<'a> {
 
     /// How many elements an array has, which may have `most` of them: 0 where its length is negative.
     pub fn count(&mut self, most: u32) -> Result<u32, ValueFault>
-        ensures { Moves (λ n. n) result self.new (field_at 4 (count_of most) self.old) }
+        ensures exact { Moves (λ n. n) result self.new (field_at 4 (count_of most) self.old) }
+        ensures memory { TakesNoMemory result }
     {
         let place = self.place;
         let count = self.uint32()?;
@@ -220,7 +234,8 @@ impl<'a> Cursor<'a> {
 
     /// The byte that says how a NodeId stands.
     fn form(&mut self) -> Result<Form, ValueFault>
-        ensures { Moves (λ f. f) result self.new (field_at 1 form_of self.old) }
+        ensures exact { Moves (λ f. f) result self.new (field_at 1 form_of self.old) }
+        ensures memory { TakesNoMemory result }
     {
         let place = self.place;
         Form::of(self.byte()?).ok_or(bad_choice(place))
@@ -273,14 +288,15 @@ impl<'a> Cursor<'a> {
 
     /// The first byte of an ExpandedNodeId.
     fn head(&mut self) -> Result<Head, ValueFault>
-        ensures { Moves (λ h. h) result self.new (field_at 1 head_of self.old) }
+        ensures exact { Moves (λ h. h) result self.new (field_at 1 head_of self.old) }
+        ensures memory { TakesNoMemory result }
     {
         let place = self.place;
         Head::of(self.byte()?).ok_or(bad_choice(place))
     }
 
     /// A text where a mask says that there is one, and null else.
-    fn optional_text(&mut self, alloc: Global, is_there: bool) -> Result<UaText, ValueFault>
+    pub fn optional_text(&mut self, alloc: Global, is_there: bool) -> Result<UaText, ValueFault>
         ensures { Moves (λ run. run) result self.new (optional_at is_there None text_at self.old) }
     {
         if is_there {
@@ -291,8 +307,9 @@ impl<'a> Cursor<'a> {
     }
 
     /// A UInt32 where a mask says that there is one, and 0 else.
-    fn optional_uint32(&mut self, is_there: bool) -> Result<u32, ValueFault>
-        ensures { Moves (λ n. n) result self.new (optional_at is_there 0 (number_at 4) self.old) }
+    pub fn optional_uint32(&mut self, is_there: bool) -> Result<u32, ValueFault>
+        ensures exact { Moves (λ n. n) result self.new (optional_at is_there 0 (number_at 4) self.old) }
+        ensures memory { TakesNoMemory result }
     {
         if is_there { self.uint32() } else { Ok(0) }
     }
@@ -329,7 +346,8 @@ impl<'a> Cursor<'a> {
 
     /// The byte that says which encoding a body has.
     fn body_kind(&mut self) -> Result<BodyKind, ValueFault>
-        ensures { Moves (λ k. k) result self.new (field_at 1 kind_of self.old) }
+        ensures exact { Moves (λ k. k) result self.new (field_at 1 kind_of self.old) }
+        ensures memory { TakesNoMemory result }
     {
         let place = self.place;
         BodyKind::of(self.byte()?).ok_or(bad_choice(place))
@@ -357,7 +375,7 @@ impl<'a> Cursor<'a> {
 
 /// A byte that chooses nothing.
 fn bad_choice(place: usize) -> ValueFault
-    ensures { result ≡ faults.Bad place 0x80070000 }
+    ensures { result ≡ faults.Bad place bad_decoding_error }
 {
     ValueFault::Bad {
         place,

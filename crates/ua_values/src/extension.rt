@@ -1,4 +1,5 @@
 ghost use Rattle.std.specs.Prelude.{◌≡◌, IfOk};
+ghost use Rattle.ua_base.specs.Status.{bad_decoding_error};
 ghost use Rattle.ua_values.specs.Readers.{kind_of, MeansOrNot};
 
 use crate::node::NodeId;
@@ -58,7 +59,7 @@ pub(crate) enum BodyKind {
 impl BodyKind {
     /// The kind that the byte says, where it says one.
     pub(crate) fn of(byte: u8) -> Option<BodyKind>
-        ensures { MeansOrNot result (kind_of byte) 0x80070000 }
+        ensures { MeansOrNot result (kind_of byte) bad_decoding_error }
     {
         match byte {
             0 => Some(BodyKind::Absent),

@@ -1,4 +1,9 @@
 //! Laws of the grammar, the readers and the written spellings, each the contract of a function that does nothing.
+//!
+//! Each law says three things of a type. No spelling is the front of another, and bytes spell one value at most.
+//! The written spelling is a spelling, and what was written is read again, whatever follows it: both of the values that
+//! keep the limits, which the law's first argument says (a text or a ByteString has at most 1,048,576 bytes, an array
+//! at most 65,536 elements). Of a value that breaks a limit a law says nothing.
 
 ghost use Rattle.std.specs.Prelude.{◌<◌, ◌^◌, ℕ, FitsSigned};
 ghost use Rattle.std.specs.Int.{w8, w16, w32, w64};
@@ -15,12 +20,13 @@ pub fn numbers_are_lawful()
     ensures { (w : ℕ) → 0 < w → IsLawful (λ n. n < 256 ^ w) (number w) (number_at w) (little_bytes w) }
 {}
 
-/// A String, an XmlElement or a ByteString.
+/// A String, an XmlElement or a ByteString: what is written is read again where it has at most 1,048,576 bytes.
 pub fn texts_are_lawful()
     ensures { IsLawful KeepsText text text_at written_text }
 {}
 
-/// An array of Strings: as every array, it is lawful since its elements are.
+/// An array of Strings: as every array, it is lawful since its elements are. What is written is read again where it has
+/// at most 65,536 elements, each of which keeps its own limit.
 pub fn text_arrays_are_lawful()
     ensures { IsLawful (KeepsArray KeepsText) (array text) (array_at text_at) (written_array written_text) }
 {}
@@ -35,27 +41,27 @@ pub fn guids_are_lawful()
     ensures { IsLawful KeepsGuid guid guid_at written_guid }
 {}
 
-/// A NodeId.
+/// A NodeId, where its text or its bytes keep the limit.
 pub fn node_ids_are_lawful()
     ensures { IsLawful KeepsNode node_id node_at written_node }
 {}
 
-/// An ExpandedNodeId.
+/// An ExpandedNodeId, where its texts and its bytes keep the limit.
 pub fn expanded_node_ids_are_lawful()
     ensures { IsLawful KeepsExpanded expanded_node_id expanded_at written_expanded }
 {}
 
-/// A QualifiedName.
+/// A QualifiedName, where its name keeps the limit.
 pub fn qualified_names_are_lawful()
     ensures { IsLawful KeepsQualified qualified_name qualified_at written_qualified }
 {}
 
-/// A LocalizedText.
+/// A LocalizedText, where both its texts keep the limit.
 pub fn localized_texts_are_lawful()
     ensures { IsLawful KeepsLocalized localized_text localized_at written_localized }
 {}
 
-/// An ExtensionObject.
+/// An ExtensionObject, where its type and its body keep the limit.
 pub fn extension_objects_are_lawful()
     ensures { IsLawful KeepsExtension extension_object extension_at written_extension }
 {}

@@ -35,7 +35,7 @@ pub use reading::{
 };
 pub use run::{UaBytes, UaText};
 pub use writing::{
-    append, put_expanded_node_id, put_extension_object, put_localized_text, put_node_id,
+    append, flag, put_expanded_node_id, put_extension_object, put_localized_text, put_node_id,
     put_qualified_name, write_boolean, write_byte, write_byte_string, write_date_time,
     write_double, write_expanded_node_id, write_extension_object, write_float, write_guid,
     write_int16, write_int32, write_int64, write_localized_text, write_node_id,

@@ -1,5 +1,6 @@
-ghost use Rattle.std.specs.Prelude.{◌≡◌, ◌<◌, ◌^◌, IfOk};
-ghost use Rattle.ua_values.specs.Readers.{form_of, has_bit, head_of, MeansOrNot};
+ghost use Rattle.std.specs.Prelude.{◌≡◌, IfOk, IsTrue};
+ghost use Rattle.ua_base.specs.Status.{bad_decoding_error};
+ghost use Rattle.ua_values.specs.Readers.{form_of, is_worth, has_bit, head_of, MeansOrNot};
 ghost use Rattle.ua_values.specs.Types.{form_byte};
 ghost use Rattle.ua_values.specs.Written.{shortest_number, shortest};
 
@@ -8,7 +9,8 @@ use std::alloc::Global;
 use ua_base::OutOfMemory;
 use uuid::Uuid;
 
-/// What names a node of an address space (OPC 10000-3, 8.2): a namespace's index, and a name there of one of four kinds.
+/// What names a node of an address space (OPC 10000-3, 8.2): a namespace's index, and a name there of one of four
+/// kinds.
 #[derive(Debug, Drop)]
 pub enum NodeId {
     /// A number.
@@ -84,7 +86,7 @@ pub(crate) struct Head {
 impl Form {
     /// The form that the byte says, where it says one.
     pub(crate) fn of(byte: u8) -> Option<Form>
-        ensures { MeansOrNot result (form_of byte) 0x80070000 }
+        ensures { MeansOrNot result (form_of byte) bad_decoding_error }
     {
         match byte {
             0 => Some(Form::TwoByte),
@@ -141,18 +143,18 @@ impl Form {
 
 /// Whether a byte, as a mask is one, has the bit that is worth `worth`.
 pub fn has_bit(worth: u8, byte: u8) -> bool
-    requires { 0 < worth }
+    requires { IsTrue (is_worth worth) }
     ensures { result ≡ has_bit worth byte }
 {
-    byte / worth % 2 == 1
+    byte & worth != 0
 }
 
 impl Head {
     /// What the byte says, where its form is one.
     pub(crate) fn of(byte: u8) -> Option<Head>
-        ensures { MeansOrNot result (head_of byte) 0x80070000 }
+        ensures { MeansOrNot result (head_of byte) bad_decoding_error }
     {
-        let form = Form::of(byte % 64)?;
+        let form = Form::of(byte & 63)?;
         Some(Head {
             form,
             has_uri: has_bit(128, byte),

@@ -1,5 +1,5 @@
 ghost use Rattle.std.specs.Int.{w8, w16, w32, w64};
-ghost use Rattle.ua_values.specs.Reading.{input, Gives, sized, number_at};
+ghost use Rattle.ua_values.specs.Reading.{input, Gives, TakesNoMemory, sized, number_at};
 ghost use Rattle.ua_values.specs.Readers.{boolean_at, signed_at, guid_at, text_at, node_at, expanded_at, qualified_at, localized_at, extension_at};
 ghost use Rattle.ua_values.specs.Parts.{number, text};
 ghost use Rattle.ua_values.specs.Types.{boolean, signed, guid, node_id, expanded_node_id, qualified_name, localized_text, extension_object};
@@ -18,6 +18,7 @@ use uuid::Uuid;
 pub fn read_boolean(bytes: &[u8]) -> Result<(bool, usize), ValueFault>
     ensures exact { Gives result (sized (boolean_at (input 0 bytes.now))) }
     ensures spelled { IsRead boolean bytes.now result }
+    ensures memory { TakesNoMemory result }
 {
     let mut from = Cursor::new(bytes);
     let value = from.boolean();
@@ -28,6 +29,7 @@ pub fn read_boolean(bytes: &[u8]) -> Result<(bool, usize), ValueFault>
 pub fn read_sbyte(bytes: &[u8]) -> Result<(i8, usize), ValueFault>
     ensures exact { Gives result (sized (signed_at 1 w8 (input 0 bytes.now))) }
     ensures spelled { IsRead (signed 1 w8) bytes.now result }
+    ensures memory { TakesNoMemory result }
 {
     let mut from = Cursor::new(bytes);
     let value = from.sbyte();
@@ -38,6 +40,7 @@ pub fn read_sbyte(bytes: &[u8]) -> Result<(i8, usize), ValueFault>
 pub fn read_byte(bytes: &[u8]) -> Result<(u8, usize), ValueFault>
     ensures exact { Gives result (sized (number_at 1 (input 0 bytes.now))) }
     ensures spelled { IsRead (number 1) bytes.now result }
+    ensures memory { TakesNoMemory result }
 {
     let mut from = Cursor::new(bytes);
     let value = from.byte();
@@ -48,6 +51,7 @@ pub fn read_byte(bytes: &[u8]) -> Result<(u8, usize), ValueFault>
 pub fn read_int16(bytes: &[u8]) -> Result<(i16, usize), ValueFault>
     ensures exact { Gives result (sized (signed_at 2 w16 (input 0 bytes.now))) }
     ensures spelled { IsRead (signed 2 w16) bytes.now result }
+    ensures memory { TakesNoMemory result }
 {
     let mut from = Cursor::new(bytes);
     let value = from.int16();
@@ -58,6 +62,7 @@ pub fn read_int16(bytes: &[u8]) -> Result<(i16, usize), ValueFault>
 pub fn read_uint16(bytes: &[u8]) -> Result<(u16, usize), ValueFault>
     ensures exact { Gives result (sized (number_at 2 (input 0 bytes.now))) }
     ensures spelled { IsRead (number 2) bytes.now result }
+    ensures memory { TakesNoMemory result }
 {
     let mut from = Cursor::new(bytes);
     let value = from.uint16();
@@ -68,6 +73,7 @@ pub fn read_uint16(bytes: &[u8]) -> Result<(u16, usize), ValueFault>
 pub fn read_int32(bytes: &[u8]) -> Result<(i32, usize), ValueFault>
     ensures exact { Gives result (sized (signed_at 4 w32 (input 0 bytes.now))) }
     ensures spelled { IsRead (signed 4 w32) bytes.now result }
+    ensures memory { TakesNoMemory result }
 {
     let mut from = Cursor::new(bytes);
     let value = from.int32();
@@ -78,6 +84,7 @@ pub fn read_int32(bytes: &[u8]) -> Result<(i32, usize), ValueFault>
 pub fn read_uint32(bytes: &[u8]) -> Result<(u32, usize), ValueFault>
     ensures exact { Gives result (sized (number_at 4 (input 0 bytes.now))) }
     ensures spelled { IsRead (number 4) bytes.now result }
+    ensures memory { TakesNoMemory result }
 {
     let mut from = Cursor::new(bytes);
     let value = from.uint32();
@@ -88,6 +95,7 @@ pub fn read_uint32(bytes: &[u8]) -> Result<(u32, usize), ValueFault>
 pub fn read_int64(bytes: &[u8]) -> Result<(i64, usize), ValueFault>
     ensures exact { Gives result (sized (signed_at 8 w64 (input 0 bytes.now))) }
     ensures spelled { IsRead (signed 8 w64) bytes.now result }
+    ensures memory { TakesNoMemory result }
 {
     let mut from = Cursor::new(bytes);
     let value = from.int64();
@@ -98,6 +106,7 @@ pub fn read_int64(bytes: &[u8]) -> Result<(i64, usize), ValueFault>
 pub fn read_uint64(bytes: &[u8]) -> Result<(u64, usize), ValueFault>
     ensures exact { Gives result (sized (number_at 8 (input 0 bytes.now))) }
     ensures spelled { IsRead (number 8) bytes.now result }
+    ensures memory { TakesNoMemory result }
 {
     let mut from = Cursor::new(bytes);
     let value = from.uint64();
@@ -108,6 +117,7 @@ pub fn read_uint64(bytes: &[u8]) -> Result<(u64, usize), ValueFault>
 pub fn read_float(bytes: &[u8]) -> Result<(u32, usize), ValueFault>
     ensures exact { Gives result (sized (number_at 4 (input 0 bytes.now))) }
     ensures spelled { IsRead (number 4) bytes.now result }
+    ensures memory { TakesNoMemory result }
 {
     let mut from = Cursor::new(bytes);
     let value = from.uint32();
@@ -118,16 +128,19 @@ pub fn read_float(bytes: &[u8]) -> Result<(u32, usize), ValueFault>
 pub fn read_double(bytes: &[u8]) -> Result<(u64, usize), ValueFault>
     ensures exact { Gives result (sized (number_at 8 (input 0 bytes.now))) }
     ensures spelled { IsRead (number 8) bytes.now result }
+    ensures memory { TakesNoMemory result }
 {
     let mut from = Cursor::new(bytes);
     let value = from.uint64();
     from.sized(value)
 }
 
-/// Reads a DateTime, in 100 nanoseconds since 1601-01-01 UTC (OPC 10000-6, 5.2.2.5) at the front of the bytes: the value, and how many bytes it takes.
+/// Reads a DateTime, in 100 nanoseconds since 1601-01-01 UTC (OPC 10000-6, 5.2.2.5) at the front of the bytes: the
+/// value, and how many bytes it takes.
 pub fn read_date_time(bytes: &[u8]) -> Result<(i64, usize), ValueFault>
     ensures exact { Gives result (sized (signed_at 8 w64 (input 0 bytes.now))) }
     ensures spelled { IsRead (signed 8 w64) bytes.now result }
+    ensures memory { TakesNoMemory result }
 {
     let mut from = Cursor::new(bytes);
     let value = from.int64();
@@ -138,6 +151,7 @@ pub fn read_date_time(bytes: &[u8]) -> Result<(i64, usize), ValueFault>
 pub fn read_status_code(bytes: &[u8]) -> Result<(u32, usize), ValueFault>
     ensures exact { Gives result (sized (number_at 4 (input 0 bytes.now))) }
     ensures spelled { IsRead (number 4) bytes.now result }
+    ensures memory { TakesNoMemory result }
 {
     let mut from = Cursor::new(bytes);
     let value = from.uint32();
@@ -148,6 +162,7 @@ pub fn read_status_code(bytes: &[u8]) -> Result<(u32, usize), ValueFault>
 pub fn read_guid(bytes: &[u8]) -> Result<(Uuid, usize), ValueFault>
     ensures exact { Gives result (sized (guid_at (input 0 bytes.now))) }
     ensures spelled { IsRead guid bytes.now result }
+    ensures memory { TakesNoMemory result }
 {
     let mut from = Cursor::new(bytes);
     let value = from.guid();
@@ -184,7 +199,8 @@ pub fn read_byte_string(alloc: Global, bytes: &[u8]) -> Result<(UaBytes, usize),
     from.sized(value)
 }
 
-/// Reads a NodeId in any of its forms (OPC 10000-6, 5.2.2.9) at the front of the bytes: the value, and how many bytes it takes.
+/// Reads a NodeId in any of its forms (OPC 10000-6, 5.2.2.9) at the front of the bytes: the value, and how many bytes
+/// it takes.
 pub fn read_node_id(alloc: Global, bytes: &[u8]) -> Result<(NodeId, usize), ValueFault>
     ensures exact { Gives result (sized (node_at (input 0 bytes.now))) }
     ensures spelled { IsRead node_id bytes.now result }

@@ -1,4 +1,4 @@
-ghost use Rattle.std.specs.Prelude.{◌≡◌, Some, None, option_map, IfOk};
+ghost use Rattle.std.specs.Prelude.{◌≡◌, ◌↔◌, Some, None, option_map, IfOk, IsTrue};
 ghost use Rattle.std.specs.Option.{is_none, option_copied};
 
 use std::alloc::Global;
@@ -19,19 +19,78 @@ impl Model for Run {
     ghost view = { λ r. r.bytes.items };
 }
 
-impl Run {
-    fn copy(&self, alloc: Global) -> Result<Run, OutOfMemory>
+/// Null, or bytes: what a text and a ByteString both are.
+#[derive(Debug, Drop)]
+struct Nullable {
+    run: Option<Run>,
+}
+
+impl Model for Nullable {
+    ghost use Rattle.std.specs.Prelude.{List, ℕ, Option};
+
+    ghost Value = { Option (List ℕ) };
+
+    ghost view = { λ n. n.run };
+}
+
+impl Nullable {
+    fn null() -> Nullable
+        ensures { result ≡ None }
+    {
+        Nullable { run: None }
+    }
+
+    fn new(bytes: Vec<u8>) -> Nullable
+        ensures { result ≡ Some bytes.items }
+    {
+        Nullable {
+            run: Some(Run { bytes }),
+        }
+    }
+
+    fn is_null(&self) -> bool
+        ensures { result ≡ is_none self.now }
+    {
+        self.run.is_none()
+    }
+
+    fn bytes(&self) -> Option<&[u8]>
+        ensures { option_copied result ≡ self.now }
+    {
+        self.run.as_ref().map(|run| run.bytes.as_slice())
+    }
+
+    fn into_bytes(self) -> Option<Vec<u8>>
+        ensures { option_map (λ bytes. bytes.items) result ≡ self }
+    {
+        self.run.map(|run| run.bytes)
+    }
+
+    fn copy(&self, alloc: Global) -> Result<Nullable, OutOfMemory>
         ensures { IfOk result (λ copied. copied ≡ self.now) }
     {
-        let bytes = Vec::from_slice(alloc, &self.bytes)?;
-        Ok(Run { bytes })
+        match self.bytes() {
+            None => Ok(Nullable::null()),
+            Some(bytes) => Ok(Nullable::new(Vec::from_slice(alloc, bytes)?)),
+        }
+    }
+
+    fn equals(&self, other: &Nullable) -> bool
+        ensures { IsTrue result ↔ (self.now ≡ other.now) }
+    {
+        match (self.bytes(), other.bytes()) {
+            (None, None) => true,
+            (Some(bytes), Some(others)) => bytes == others,
+            _ => false,
+        }
     }
 }
 
-/// A String or an XmlElement (OPC 10000-6, 5.2.2.4): null, or bytes. They are UTF-8 where a peer keeps the rules; nothing here looks.
+/// A String or an XmlElement (OPC 10000-6, 5.2.2.4): null, or bytes. They are UTF-8 where a peer keeps the rules;
+/// nothing here looks.
 #[derive(Debug, Drop)]
 pub struct UaText {
-    run: Option<Run>,
+    inner: Nullable,
 }
 
 impl Model for UaText {
@@ -39,13 +98,13 @@ impl Model for UaText {
 
     ghost Value = { Option (List ℕ) };
 
-    ghost view = { λ t. t.run };
+    ghost view = { λ t. t.inner };
 }
 
 /// A ByteString (OPC 10000-6, 5.2.2.7): null, or bytes.
 #[derive(Debug, Drop)]
 pub struct UaBytes {
-    run: Option<Run>,
+    inner: Nullable,
 }
 
 impl Model for UaBytes {
@@ -53,7 +112,7 @@ impl Model for UaBytes {
 
     ghost Value = { Option (List ℕ) };
 
-    ghost view = { λ t. t.run };
+    ghost view = { λ t. t.inner };
 }
 
 impl UaText {
@@ -61,7 +120,9 @@ impl UaText {
     pub fn null() -> UaText
         ensures { result ≡ None }
     {
-        UaText { run: None }
+        UaText {
+            inner: Nullable::null(),
+        }
     }
 
     /// The text of these bytes.
@@ -69,7 +130,7 @@ impl UaText {
         ensures { result ≡ Some bytes.items }
     {
         UaText {
-            run: Some(Run { bytes }),
+            inner: Nullable::new(bytes),
         }
     }
 
@@ -77,33 +138,36 @@ impl UaText {
     pub fn is_null(&self) -> bool
         ensures { result ≡ is_none self.now }
     {
-        self.run.is_none()
+        self.inner.is_null()
     }
 
     /// The bytes, where it is not null.
     pub fn bytes(&self) -> Option<&[u8]>
         ensures { option_copied result ≡ self.now }
     {
-        self.run.as_ref().map(|run| run.bytes.as_slice())
+        self.inner.bytes()
     }
 
     /// The bytes, where it is not null.
     pub fn into_bytes(self) -> Option<Vec<u8>>
         ensures { option_map (λ bytes. bytes.items) result ≡ self }
     {
-        self.run.map(|run| run.bytes)
+        self.inner.into_bytes()
     }
 
     /// The same text once more.
     pub fn copy(&self, alloc: Global) -> Result<UaText, OutOfMemory>
         ensures { IfOk result (λ copied. copied ≡ self.now) }
     {
-        match &self.run {
-            None => Ok(UaText { run: None }),
-            Some(run) => Ok(UaText {
-                run: Some(run.copy(alloc)?),
-            }),
-        }
+        let inner = self.inner.copy(alloc)?;
+        Ok(UaText { inner })
+    }
+
+    /// Whether both are null, or both are texts of the same bytes. It takes no memory.
+    pub fn equals(&self, other: &UaText) -> bool
+        ensures { IsTrue result ↔ (self.now ≡ other.now) }
+    {
+        self.inner.equals(&other.inner)
     }
 }
 
@@ -112,7 +176,9 @@ impl UaBytes {
     pub fn null() -> UaBytes
         ensures { result ≡ None }
     {
-        UaBytes { run: None }
+        UaBytes {
+            inner: Nullable::null(),
+        }
     }
 
     /// These bytes.
@@ -120,7 +186,7 @@ impl UaBytes {
         ensures { result ≡ Some bytes.items }
     {
         UaBytes {
-            run: Some(Run { bytes }),
+            inner: Nullable::new(bytes),
         }
     }
 
@@ -128,32 +194,35 @@ impl UaBytes {
     pub fn is_null(&self) -> bool
         ensures { result ≡ is_none self.now }
     {
-        self.run.is_none()
+        self.inner.is_null()
     }
 
     /// The bytes, where it is not null.
     pub fn bytes(&self) -> Option<&[u8]>
         ensures { option_copied result ≡ self.now }
     {
-        self.run.as_ref().map(|run| run.bytes.as_slice())
+        self.inner.bytes()
     }
 
     /// The bytes, where it is not null.
     pub fn into_bytes(self) -> Option<Vec<u8>>
         ensures { option_map (λ bytes. bytes.items) result ≡ self }
     {
-        self.run.map(|run| run.bytes)
+        self.inner.into_bytes()
     }
 
     /// The same ByteString once more.
     pub fn copy(&self, alloc: Global) -> Result<UaBytes, OutOfMemory>
         ensures { IfOk result (λ copied. copied ≡ self.now) }
     {
-        match &self.run {
-            None => Ok(UaBytes { run: None }),
-            Some(run) => Ok(UaBytes {
-                run: Some(run.copy(alloc)?),
-            }),
-        }
+        let inner = self.inner.copy(alloc)?;
+        Ok(UaBytes { inner })
+    }
+
+    /// Whether both are null, or both are the same bytes. It takes no memory.
+    pub fn equals(&self, other: &UaBytes) -> bool
+        ensures { IsTrue result ↔ (self.now ≡ other.now) }
+    {
+        self.inner.equals(&other.inner)
     }
 }

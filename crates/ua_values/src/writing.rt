@@ -146,7 +146,7 @@ fn write_counted(run: Option<&[u8]>, to: &mut Vec<u8>) -> Result<(), OutOfMemory
         return write_uint32(NULL_LENGTH, to);
     };
     let mut length = [0; 4];
-    LittleEndian::write_u32(&mut length, (run.len() % (1 << 32)) as u32);
+    LittleEndian::write_u32(&mut length, (run.len() & 0xFFFF_FFFF) as u32);
     to.reserve(4 + run.len())?;
     to.extend_from_slice(&length)?;
     to.extend_from_slice(run)?;
@@ -224,8 +224,8 @@ fn put_form(node: &NodeId, to: &mut Vec<u8>) -> Result<(), OutOfMemory>
     }
 }
 
-/// Appends a NodeId as `write_node_id` does, but for want of memory, which leaves what was appended by then:
-/// for a writer that builds apart.
+/// Appends a NodeId as `write_node_id` does, but for want of memory, which leaves what was appended
+/// by then: for a writer that builds apart.
 pub fn put_node_id(value: &NodeId, to: &mut Vec<u8>) -> Result<(), OutOfMemory>
     ensures { OnOk result (to.new.items ≡ to.old.items ++ written_node value.now) }
 {
@@ -264,7 +264,7 @@ fn put_unless_zero(value: u32, to: &mut Vec<u8>) -> Result<(), OutOfMemory>
 }
 
 /// What a mask's bit is worth where its field is there.
-fn flag(worth: u8, is_there: bool) -> u8
+pub fn flag(worth: u8, is_there: bool) -> u8
     ensures { result ≡ flag worth is_there }
 {
     if is_there { worth } else { 0 }
@@ -286,8 +286,8 @@ fn mask(value: &LocalizedText) -> u8
     flag(1, !value.locale.is_null()) + flag(2, !value.text.is_null())
 }
 
-/// Appends an ExpandedNodeId as `write_expanded_node_id` does, but for want of memory, which leaves what was appended by then:
-/// for a writer that builds apart.
+/// Appends an ExpandedNodeId as `write_expanded_node_id` does, but for want of memory, which leaves what was appended
+/// by then: for a writer that builds apart.
 pub fn put_expanded_node_id(value: &ExpandedNodeId, to: &mut Vec<u8>) -> Result<(), OutOfMemory>
     ensures { OnOk result (to.new.items ≡ to.old.items ++ written_expanded value.now) }
 {
@@ -307,8 +307,8 @@ pub fn write_expanded_node_id(value: &ExpandedNodeId, to: &mut Vec<u8>) -> Resul
     append(&built, to)
 }
 
-/// Appends a QualifiedName as `write_qualified_name` does, but for want of memory, which leaves what was appended by then:
-/// for a writer that builds apart.
+/// Appends a QualifiedName as `write_qualified_name` does, but for want of memory, which leaves what was appended
+/// by then: for a writer that builds apart.
 pub fn put_qualified_name(value: &QualifiedName, to: &mut Vec<u8>) -> Result<(), OutOfMemory>
     ensures { OnOk result (to.new.items ≡ to.old.items ++ written_qualified value.now) }
 {
@@ -326,8 +326,8 @@ pub fn write_qualified_name(value: &QualifiedName, to: &mut Vec<u8>) -> Result<(
     append(&built, to)
 }
 
-/// Appends a LocalizedText as `write_localized_text` does, but for want of memory, which leaves what was appended by then:
-/// for a writer that builds apart.
+/// Appends a LocalizedText as `write_localized_text` does, but for want of memory, which leaves what was appended
+/// by then: for a writer that builds apart.
 pub fn put_localized_text(value: &LocalizedText, to: &mut Vec<u8>) -> Result<(), OutOfMemory>
     ensures { OnOk result (to.new.items ≡ to.old.items ++ written_localized value.now) }
 {
@@ -363,8 +363,8 @@ fn put_extension_body(body: &ExtensionBody, to: &mut Vec<u8>) -> Result<(), OutO
     }
 }
 
-/// Appends an ExtensionObject as `write_extension_object` does, but for want of memory, which leaves what was appended by then:
-/// for a writer that builds apart.
+/// Appends an ExtensionObject as `write_extension_object` does, but for want of memory, which leaves what was appended
+/// by then: for a writer that builds apart.
 pub fn put_extension_object(value: &ExtensionObject, to: &mut Vec<u8>) -> Result<(), OutOfMemory>
     ensures { OnOk result (to.new.items ≡ to.old.items ++ written_extension value.now) }
 {

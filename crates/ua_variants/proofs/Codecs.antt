@@ -5,7 +5,8 @@ use Rattle.std.specs.List.{AllByRecursion}
 use Rattle.std.proofs.lemmas.Bool.{eqb-true}
 use Rattle.std.proofs.lemmas.Bool.Decides.{nat_tests}
 use Rattle.std.proofs.lemmas.List.{length-append}
-use Rattle.ua_values.specs.declared.fault.TheConstants.{MOST_ITEMS}
+use Rattle.ua_base.specs.Status.{bad_decoding_error, bad_encoding_limits_exceeded}
+use Rattle.ua_values.specs.Limits.{most_items}
 use Rattle.ua_values.specs.Reading.{Reader, ◌>>=◌, give, any, field_at, number_at}
 use Rattle.ua_values.specs.Parts.{number, optional, Chained, text, elements, array_within, array, Begun, ChainCut, optional_cut, array_cut}
 use Rattle.ua_values.specs.Codec.{Reads, IsCodec}
@@ -15,9 +16,9 @@ use Rattle.ua_values.proofs.Chain.{reads, reads_on, reads_as}
 use Rattle.ua_values.proofs.Leaves.{field, number_field, field_reads}
 use Rattle.ua_values.proofs.Fields.{mapped, optional_codec, goes_on, begins, ends}
 use Rattle.ua_values.proofs.Arrays.{array_codec, array_within_codec}
-use Rattle.ua_values.proofs.Nesting.{give_reads, refused_reads, reads_mapped, reads_made_of, reads_optional, array_reads, Checked, checked_reads}
+use Rattle.ua_values.proofs.Nesting.{give_reads, refused_reads, reads_mapped, reads_made_of, reads_optional, list_reads, Checked, checked_reads}
 use Rattle.ua_values.proofs.TypeCodecs.{failed_not, err_is, fine_is, byte_codec, number16_codec, number32_codec, number64_codec, signed_codec, boolean_codec, guid_codec, text_codec, node_codec, expanded_codec, qualified_codec, localized_codec, extension_codec}
-use Rattle.ua_variants.specs.declared.variant.TheConstants.{MOST_DIMENSIONS}
+use Rattle.ua_variants.specs.Limits.{most_dimensions}
 use Rattle.ua_variants.specs.declared.variant.Flat.{Flat}
 use Rattle.ua_variants.specs.declared.variant.Flat.TheVariants as flat
 use Rattle.ua_variants.specs.declared.variant.Scalar.TheVariants as scalar
@@ -113,23 +114,23 @@ all_below [] each = refl
 all_below (n ∷ more) each = rw (below_back n (2 ^ 31) each.0, all_below more each.1) refl
 
 abbrev judged_list : Bool → List ℕ → Result (List ℕ) ℕ
-judged_list b sizes = cond b (Ok sizes) (Err 0x80070000)
+judged_list b sizes = cond b (Ok sizes) (Err bad_decoding_error)
 
 sizes_are : (count : ℕ) (sizes kept : List ℕ) (b : Bool) → (none_negative sizes && eqb (product sizes) count) ≡ b → judged_list b sizes ≡ Ok kept
     → (sizes ≡ kept) × AllByRecursion (λ n. n < 2 ^ 31) sizes × (product sizes ≡ count)
 sizes_are count sizes kept true test e =
     let both = and_both (none_negative sizes) (eqb (product sizes) count) test in
     (fine_is sizes kept e, each_below sizes both.0, eqb-true (product sizes) count both.1)
-sizes_are count sizes kept false test e = absurd (failed_not kept 0x80070000 e)
+sizes_are count sizes kept false test e = absurd (failed_not kept bad_decoding_error e)
 
 sizes_say : (count : ℕ) (sizes : List ℕ) → AllByRecursion (λ n. n < 2 ^ 31) sizes → product sizes ≡ count → judged_sizes count sizes ≡ Ok sizes
 sizes_say count sizes each is =
     let same : eqb (product sizes) count ≡ true = grind (arith, nat_tests) in
     rw (all_below sizes each, same) refl
 
-sizes_refuse : (sizes : List ℕ) (code : ℕ) (b : Bool) → judged_list b sizes ≡ Err code → code ≡ 0x80070000
+sizes_refuse : (sizes : List ℕ) (code : ℕ) (b : Bool) → judged_list b sizes ≡ Err code → code ≡ bad_decoding_error
 sizes_refuse sizes code true e = absurd cc
-sizes_refuse sizes code false e = sym (err_is {A = List ℕ} 0x80070000 code e)
+sizes_refuse sizes code false e = sym (err_is {A = List ℕ} bad_decoding_error code e)
 
 numbers_length : (sizes bytes : List ℕ) → elements (number 4) sizes bytes → length bytes ≡ length sizes * 4
 numbers_length [] bytes e = ap length e
@@ -139,24 +140,24 @@ list_length : (most : ℕ) (sizes bytes : List ℕ) → array_within most (numbe
 list_length most sizes bytes (inl none) = (0, omega (arith, none.3.0))
 list_length most sizes bytes (inr some) = (length sizes, omega (arith, ap length some.1.whole, length-append some.1.front some.1.back, some.1.first.0, numbers_length sizes some.1.back some.1.second))
 
-pub dimensions_reads : (count : ℕ) → Reads (dimensions count) (Begun (array_within MOST_DIMENSIONS (number 4))) (dimensions_at count)
+pub dimensions_reads : (count : ℕ) → Reads (dimensions count) (Begun (array_within most_dimensions (number 4))) (dimensions_at count)
 dimensions_reads count =
-    reads_as (Checked (array_within MOST_DIMENSIONS (number 4)) (judged_sizes count)) (dimensions count) (Begun (array_within MOST_DIMENSIONS (number 4))) (Begun (array_within MOST_DIMENSIONS (number 4))) (dimensions_at count)
+    reads_as (Checked (array_within most_dimensions (number 4)) (judged_sizes count)) (dimensions count) (Begun (array_within most_dimensions (number 4))) (Begun (array_within most_dimensions (number 4))) (dimensions_at count)
     (λ sizes bytes c.
     let is = sizes_are count c.0 sizes (none_negative c.0 && eqb (product c.0) count) refl c.1 in
-    (subst (λ (l : List ℕ). AllByRecursion (λ n. n < 2 ^ 31) l) is.0 is.1, ap product (sym is.0) ∙ is.2, subst (λ (l : List ℕ). array_within MOST_DIMENSIONS (number 4) l bytes) is.0 c.2))
+    (subst (λ (l : List ℕ). AllByRecursion (λ n. n < 2 ^ 31) l) is.0 is.1, ap product (sym is.0) ∙ is.2, subst (λ (l : List ℕ). array_within most_dimensions (number 4) l bytes) is.0 c.2))
     (λ sizes bytes d. (sizes, sizes_say count sizes d.0 d.1, d.2))
     (λ bytes cut. cut)
-    (checked_reads (array_within MOST_DIMENSIONS (number 4)) (Begun (array_within MOST_DIMENSIONS (number 4))) (array_within_at MOST_DIMENSIONS (number_at 4)) (judged_sizes count)
-    (reads (array_within MOST_DIMENSIONS (number 4)) (array_within_at MOST_DIMENSIONS (number_at 4)) (array_within_codec MOST_DIMENSIONS (omega arith) (number 4) (number_at 4) number32_codec))
+    (checked_reads (array_within most_dimensions (number 4)) (Begun (array_within most_dimensions (number 4))) (array_within_at most_dimensions (number_at 4)) (judged_sizes count)
+    (reads (array_within most_dimensions (number 4)) (array_within_at most_dimensions (number_at 4)) (array_within_codec most_dimensions (omega arith) (number 4) (number_at 4) number32_codec))
     (λ sizes bytes code spelled e.
-    let long = list_length MOST_DIMENSIONS sizes bytes spelled in
+    let long = list_length most_dimensions sizes bytes spelled in
     inr (inr (inl (sizes_refuse sizes code (none_negative sizes && eqb (product sizes) count) e, long.0, long.1)))))
 
 shape_reads : (count : ℕ) (is_there : Bool) → Reads (shape count is_there) (shape_cut is_there) (shape_at count is_there)
 shape_reads count is_there =
-    reads_optional (made (dimensions count) Some) (Begun (array_within MOST_DIMENSIONS (number 4))) (making Some (dimensions_at count)) None is_there
-    (reads_mapped (dimensions count) (Begun (array_within MOST_DIMENSIONS (number 4))) (dimensions_at count) Some (dimensions_reads count))
+    reads_optional (made (dimensions count) Some) (Begun (array_within most_dimensions (number 4))) (making Some (dimensions_at count)) None is_there
+    (reads_mapped (dimensions count) (Begun (array_within most_dimensions (number 4))) (dimensions_at count) Some (dimensions_reads count))
 
 shaped_reads : {A : Type 0} (S : A → List ℕ → Type 0) (C : List ℕ → Type 0) (at : Reader A) (count : A → ℕ) (is_there : Bool) (make : A → Option (List ℕ) → Variant) → Reads S C at
     → Reads (shaped S count is_there make) (shaped_cut S C is_there) (shaped_at at count is_there make)
@@ -180,18 +181,18 @@ details_codec mask =
     (λ g. record { symbolic_id = a; namespace_uri = b; locale = c; localized_text = e; additional_info = f; inner_status = g })
     (λ g. ((((refl, refl), refl), refl), refl)) (λ g. refl) (λ d known. rw (← known.0.0.0.0, ← known.0.0.0.1, ← known.0.0.1, ← known.0.1, ← known.1) refl) (number_or (has_bit 32 mask)))))))
 
-pub diagnostic_reads : (room : ℕ) → Reads (diagnostic_info room) (diagnostic_cut room) (diagnostic_at room)
+pub diagnostic_reads : (levels : ℕ) → Reads (diagnostic_info levels) (diagnostic_cut levels) (diagnostic_at levels)
 unfolding diagnostic_info diagnostic_cut diagnostic_at
-diagnostic_reads zero = refused_reads 0x80080000 (inr (inr (inr (refl, refl))))
-diagnostic_reads (suc room) =
+diagnostic_reads zero = refused_reads bad_encoding_limits_exceeded (inr (inr (inr (refl, refl))))
+diagnostic_reads (suc levels) =
     reads_on (number 1) (λ front. length front < 1) (number_at 1)
-    (λ mask. Chained (details mask) (λ known. optional (has_bit 64 mask) (record {}) (diagnostic_info room)))
-    (λ mask. ChainCut (details mask) (Begun (details mask)) (λ known. optional_cut (has_bit 64 mask) (diagnostic_cut room)))
-    (λ mask. details_at mask >>= λ known. optional_at (has_bit 64 mask) (record {}) (diagnostic_at room))
+    (λ mask. Chained (details mask) (λ known. optional (has_bit 64 mask) (record {}) (diagnostic_info levels)))
+    (λ mask. ChainCut (details mask) (Begun (details mask)) (λ known. optional_cut (has_bit 64 mask) (diagnostic_cut levels)))
+    (λ mask. details_at mask >>= λ known. optional_at (has_bit 64 mask) (record {}) (diagnostic_at levels))
     (number_reads 1 (omega arith))
-    (λ mask. reads_on (details mask) (Begun (details mask)) (details_at mask) (λ known. optional (has_bit 64 mask) (record {}) (diagnostic_info room)) (λ known. optional_cut (has_bit 64 mask) (diagnostic_cut room))
-    (λ known. optional_at (has_bit 64 mask) (record {}) (diagnostic_at room)) (reads (details mask) (details_at mask) (details_codec mask))
-    (λ known. reads_optional (diagnostic_info room) (diagnostic_cut room) (diagnostic_at room) (record {}) (has_bit 64 mask) (diagnostic_reads room)))
+    (λ mask. reads_on (details mask) (Begun (details mask)) (details_at mask) (λ known. optional (has_bit 64 mask) (record {}) (diagnostic_info levels)) (λ known. optional_cut (has_bit 64 mask) (diagnostic_cut levels))
+    (λ known. optional_at (has_bit 64 mask) (record {}) (diagnostic_at levels)) (reads (details mask) (details_at mask) (details_codec mask))
+    (λ known. reads_optional (diagnostic_info levels) (diagnostic_cut levels) (diagnostic_at levels) (record {}) (has_bit 64 mask) (diagnostic_reads levels)))
 
 -- ---- DataValue
 
@@ -223,9 +224,6 @@ data_value_by_reads S C at reader =
 
 -- ---- Variant
 
-list_reads : {A : Type 0} (S : A → List ℕ → Type 0) (C : List ℕ → Type 0) (at : Reader A) → Reads S C at → Reads (array S) (array_cut MOST_ITEMS S C) (array_at at)
-list_reads S C at reader = array_reads MOST_ITEMS (omega arith) S C at reader
-
 body_reads : (S : Variant → List ℕ → Type 0) (C : List ℕ → Type 0) (at : Reader Variant) (T : Stamped Variant → List ℕ → Type 0) (D : List ℕ → Type 0) (stamped : Reader (Stamped Variant)) → Reads S C at → Reads T D stamped
     → (h : Head) → Reads (body S T h) (body_cut S C T D h) (body_at at stamped h)
 body_reads S C at T D stamped inner outer head.Null = give_reads variant.Null
@@ -234,24 +232,24 @@ body_reads S C at T D stamped inner outer (head.One kind.DataValue) = reads_mapp
 body_reads S C at T D stamped inner outer (head.One kind.Variant) = reads_mapped S C at variant.Variant inner
 body_reads S C at T D stamped inner outer (head.One kind.DiagnosticInfo) = reads_mapped (diagnostic_info 101) (diagnostic_cut 101) (diagnostic_at 101) (λ d. variant.DiagnosticInfo) (diagnostic_reads 101)
 body_reads S C at T D stamped inner outer (head.Many (kind.Flat f) is_there) = shaped_reads (array_spells f) (Begun (array_spells f)) (flat_array_at f) count_of_array is_there variant.Array (reads (array_spells f) (flat_array_at f) (flat_array_codec f))
-body_reads S C at T D stamped inner outer (head.Many kind.DataValue is_there) = shaped_reads (array T) (array_cut MOST_ITEMS T D) (array_at stamped) length is_there variant.DataValues (list_reads T D stamped outer)
-body_reads S C at T D stamped inner outer (head.Many kind.Variant is_there) = shaped_reads (array S) (array_cut MOST_ITEMS S C) (array_at at) length is_there variant.Variants (list_reads S C at inner)
+body_reads S C at T D stamped inner outer (head.Many kind.DataValue is_there) = shaped_reads (array T) (array_cut most_items T D) (array_at stamped) length is_there variant.DataValues (list_reads T D stamped outer)
+body_reads S C at T D stamped inner outer (head.Many kind.Variant is_there) = shaped_reads (array S) (array_cut most_items S C) (array_at at) length is_there variant.Variants (list_reads S C at inner)
 body_reads S C at T D stamped inner outer (head.Many kind.DiagnosticInfo is_there) =
-    shaped_reads (array (diagnostic_info 101)) (array_cut MOST_ITEMS (diagnostic_info 101) (diagnostic_cut 101)) (array_at (diagnostic_at 101)) length is_there (λ ds. variant.DiagnosticInfos (length ds)) (list_reads (diagnostic_info 101) (diagnostic_cut 101) (diagnostic_at 101) (diagnostic_reads 101))
+    shaped_reads (array (diagnostic_info 101)) (array_cut most_items (diagnostic_info 101) (diagnostic_cut 101)) (array_at (diagnostic_at 101)) length is_there (λ ds. variant.DiagnosticInfos (length ds)) (list_reads (diagnostic_info 101) (diagnostic_cut 101) (diagnostic_at 101) (diagnostic_reads 101))
 
 -- both at once, by the levels that may follow
-pub record ReadsBoth (room : ℕ) : Type 0 where
-  pub variant : Reads (variant_spells room) (variant_cut room) (variant_at room)
-  pub stamped : Reads (data_value room) (data_value_cut room) (data_value_at room)
+pub record ReadsBoth (levels : ℕ) : Type 0 where
+  pub variant : Reads (variant_spells levels) (variant_cut levels) (variant_at levels)
+  pub stamped : Reads (data_value levels) (data_value_cut levels) (data_value_at levels)
 
-pub reads_both : (room : ℕ) → ReadsBoth room
+pub reads_both : (levels : ℕ) → ReadsBoth levels
 unfolding variant_spells data_value variant_cut data_value_cut variant_at data_value_at
-reads_both zero = record { variant = refused_reads 0x80080000 (inr (inr (inr (refl, refl)))); stamped = refused_reads 0x80080000 (inr (inr (inr (refl, refl)))) }
-reads_both (suc room) =
-    let below = reads_both room in
+reads_both zero = record { variant = refused_reads bad_encoding_limits_exceeded (inr (inr (inr (refl, refl)))); stamped = refused_reads bad_encoding_limits_exceeded (inr (inr (inr (refl, refl)))) }
+reads_both (suc levels) =
+    let below = reads_both levels in
     record {
-      variant = reads_on (λ h. number 1 (head_number h)) (λ front. length front < 1) (field_at 1 head_of) (body (variant_spells room) (data_value room)) (body_cut (variant_spells room) (variant_cut room) (data_value room) (data_value_cut room))
-          (body_at (variant_at room) (data_value_at room)) head_reads
-          (body_reads (variant_spells room) (variant_cut room) (variant_at room) (data_value room) (data_value_cut room) (data_value_at room) below.variant below.stamped);
-      stamped = data_value_by_reads (variant_spells room) (variant_cut room) (variant_at room) below.variant;
+      variant = reads_on (λ h. number 1 (head_number h)) (λ front. length front < 1) (field_at 1 head_of) (body (variant_spells levels) (data_value levels)) (body_cut (variant_spells levels) (variant_cut levels) (data_value levels) (data_value_cut levels))
+          (body_at (variant_at levels) (data_value_at levels)) head_reads
+          (body_reads (variant_spells levels) (variant_cut levels) (variant_at levels) (data_value levels) (data_value_cut levels) (data_value_at levels) below.variant below.stamped);
+      stamped = data_value_by_reads (variant_spells levels) (variant_cut levels) (variant_at levels) below.variant;
     }

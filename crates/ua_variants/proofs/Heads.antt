@@ -2,6 +2,7 @@
 use Rattle.std.proofs.Common.{◌≡◌, ℕ, ◌+◌, ◌*◌, ◌/◌, ◌%◌, ◌<◌, Bool, true, false, eqb, cond, length, Result, Ok, Err, refl, sym, ap, subst, ◌∙◌, arith, inl}
 use Rattle.std.proofs.lemmas.Bool.{eqb-true}
 use Rattle.std.proofs.lemmas.Bool.Decides.{nat_tests}
+use Rattle.ua_base.specs.Status.{bad_decoding_error}
 use Rattle.ua_values.specs.Reading.{field_at}
 use Rattle.ua_values.specs.Parts.{number, IsRefused}
 use Rattle.ua_values.specs.Codec.{Reads}
@@ -41,10 +42,10 @@ kind_is n k =
     (tested kind_number n 22 (kind.Flat flat.ExtensionObject) k _ refl
     (tested kind_number n 23 kind.DataValue k _ refl
     (tested kind_number n 24 kind.Variant k _ refl
-    (tested kind_number n 25 kind.DiagnosticInfo k (Err 0x80070000) refl
-    (λ e. absurd (failed_not k 0x80070000 e))))))))))))))))))))))))))
+    (tested kind_number n 25 kind.DiagnosticInfo k (Err bad_decoding_error) refl
+    (λ e. absurd (failed_not k bad_decoding_error e))))))))))))))))))))))))))
 
-kind_refuses : (n code : ℕ) → kind_of n ≡ Err code → code ≡ 0x80070000
+kind_refuses : (n code : ℕ) → kind_of n ≡ Err code → code ≡ bad_decoding_error
 kind_refuses n code e =
     let e1 = refused (eqb n 1) (kind.Flat flat.Boolean) _ code e in
     let e2 = refused (eqb n 2) (kind.Flat flat.SByte) _ code e1 in
@@ -70,8 +71,8 @@ kind_refuses n code e =
     let e22 = refused (eqb n 22) (kind.Flat flat.ExtensionObject) _ code e21 in
     let e23 = refused (eqb n 23) kind.DataValue _ code e22 in
     let e24 = refused (eqb n 24) kind.Variant _ code e23 in
-    let e25 = refused (eqb n 25) kind.DiagnosticInfo (Err 0x80070000) code e24 in
-    sym (err_is {A = Kind} 0x80070000 code e25)
+    let e25 = refused (eqb n 25) kind.DiagnosticInfo (Err bad_decoding_error) code e24 in
+    sym (err_is {A = Kind} bad_decoding_error code e25)
 
 kind_says : (k : Kind) → kind_of (kind_number k) ≡ Ok k
 kind_says (kind.Flat flat.Boolean) = refl
@@ -154,7 +155,7 @@ head_says (head.Many k true) = chosen_head (192 + kind_number k) 3 k (head.Many 
 -- ---- back
 
 abbrev judged_kind : Bool → Bool → Bool → Kind → Result Head ℕ
-judged_kind a b c k = cond a (Ok (head.One k)) (cond b (Ok (head.Many k false)) (cond c (Ok (head.Many k true)) (Err 0x80070000)))
+judged_kind a b c k = cond a (Ok (head.One k)) (cond b (Ok (head.Many k false)) (cond c (Ok (head.Many k true)) (Err bad_decoding_error)))
 
 joined : (byte high k : ℕ) → byte / 64 ≡ high → byte % 64 ≡ k → byte ≡ high * 64 + k
 joined byte high k p q = omega (arith, p, q)
@@ -165,7 +166,7 @@ high_is byte k h true b c p q r low e =
     whole ∙ ap head_number (fine_is (head.One k) h e)
 high_is byte k h false true c p q r low e = joined byte 2 (kind_number k) (eqb-true (byte / 64) 2 q) low ∙ ap head_number (fine_is (head.Many k false) h e)
 high_is byte k h false false true p q r low e = joined byte 3 (kind_number k) (eqb-true (byte / 64) 3 r) low ∙ ap head_number (fine_is (head.Many k true) h e)
-high_is byte k h false false false p q r low e = absurd (failed_not h 0x80070000 e)
+high_is byte k h false false false p q r low e = absurd (failed_not h bad_decoding_error e)
 
 with_is : (byte : ℕ) (m : Result Kind ℕ) (h : Head) → kind_of (byte % 64) ≡ m → with_kind (byte / 64) m ≡ Ok h → byte ≡ head_number h
 with_is byte (Err c) h is e = absurd (failed_not h c e)
@@ -180,13 +181,13 @@ head_is byte h e = null_or byte h (eqb byte 0) refl e
 
 -- ---- what is refused
 
-high_refuses : (k : Kind) (code : ℕ) (a b c : Bool) → judged_kind a b c k ≡ Err code → code ≡ 0x80070000
+high_refuses : (k : Kind) (code : ℕ) (a b c : Bool) → judged_kind a b c k ≡ Err code → code ≡ bad_decoding_error
 high_refuses k code true b c e = absurd cc
 high_refuses k code false true c e = absurd cc
 high_refuses k code false false true e = absurd cc
-high_refuses k code false false false e = sym (err_is {A = Head} 0x80070000 code e)
+high_refuses k code false false false e = sym (err_is {A = Head} bad_decoding_error code e)
 
-with_refuses : (byte code : ℕ) (m : Result Kind ℕ) → kind_of (byte % 64) ≡ m → with_kind (byte / 64) m ≡ Err code → code ≡ 0x80070000
+with_refuses : (byte code : ℕ) (m : Result Kind ℕ) → kind_of (byte % 64) ≡ m → with_kind (byte / 64) m ≡ Err code → code ≡ bad_decoding_error
 with_refuses byte code (Err c) is e = sym (err_is {A = Head} c code e) ∙ kind_refuses (byte % 64) c is
 with_refuses byte code (Ok k) is e = high_refuses k code (eqb (byte / 64) 0) (eqb (byte / 64) 2) (eqb (byte / 64) 3) e
 

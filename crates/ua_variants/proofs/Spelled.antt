@@ -6,14 +6,14 @@ use Rattle.std.specs.Option.{is_some}
 use Rattle.std.proofs.lemmas.List.{length-replicate}
 use Rattle.std.proofs.lemmas.List.Concat.{flat_map-cons}
 use Rattle.byteorder.specs.Endian.{little_bytes}
-use Rattle.ua_values.specs.declared.fault.TheConstants.{MOST_ITEMS}
+use Rattle.ua_values.specs.Limits.{most_items}
 use Rattle.ua_values.specs.Parts.{number, optional, Chained, text, array}
 use Rattle.ua_values.specs.Readers.{has_bit}
 use Rattle.ua_values.specs.Types.{boolean, signed, guid, node_id, expanded_node_id, qualified_name, localized_text, extension_object}
 use Rattle.ua_values.specs.Written.{written_boolean, written_signed, written_guid, written_text, written_array, written_node, flag, written_expanded, written_qualified, written_localized, written_extension}
 use Rattle.ua_values.specs.Laws.{KeepsText, KeepsGuid, KeepsNode, KeepsExpanded, KeepsQualified, KeepsLocalized, KeepsExtension}
 use Rattle.ua_values.proofs.WrittenLemmas.{in_turn, number_spelled, number1, boolean_spelled, guid_spelled, signed_spelled, text_spelled, node_spelled, expanded_spelled, qualified_spelled, localized_spelled, extension_spelled, array_within_spelled, array_spelled}
-use Rattle.ua_variants.specs.declared.variant.TheConstants.{MOST_DIMENSIONS}
+use Rattle.ua_variants.specs.Limits.{most_dimensions}
 use Rattle.ua_variants.specs.declared.variant.Scalar.{Scalar}
 use Rattle.ua_variants.specs.declared.variant.Scalar.TheVariants as scalar
 use Rattle.ua_variants.specs.declared.variant.Array.{Array}
@@ -126,7 +126,7 @@ head_spelled h = number1 (head_number h) (head_fits h)
 
 shape_spelled : (count : ℕ) (sizes : Option (List ℕ)) → KeepsShape count sizes → shape count (is_some sizes) sizes (written_shape sizes)
 shape_spelled count None kept = (refl, refl)
-shape_spelled count (Some sizes) kept = (sizes, refl, (kept.1, kept.2, array_within_spelled MOST_DIMENSIONS (omega arith) (λ (n : ℕ). n < 2 ^ 31) (number 4) (little_bytes 4) (λ n lt. number_spelled 4 n (omega (arith, lt))) sizes (kept.0, kept.1)))
+shape_spelled count (Some sizes) kept = (sizes, refl, (kept.1, kept.2, array_within_spelled most_dimensions (omega arith) (λ (n : ℕ). n < 2 ^ 31) (number 4) (little_bytes 4) (λ n lt. number_spelled 4 n (omega (arith, lt))) sizes (kept.0, kept.1)))
 
 shaped_spelled : {A : Type 0} (S : A → List ℕ → Type 0) (count : A → ℕ) (make : A → Option (List ℕ) → Variant) (a : A) (sizes : Option (List ℕ)) (text : List ℕ) → S a text → KeepsShape (count a) sizes
     → shaped S count (is_some sizes) make (make a sizes) (text ++ written_shape sizes)
@@ -258,9 +258,9 @@ stamped_spelled keeps S each d kept =
 
 -- ---- DiagnosticInfo
 
-pub diagnostic_spelled : (room : ℕ) (d : DiagnosticInfo) → diagnostic_info (suc room) d (little_bytes 1 0)
+pub diagnostic_spelled : (levels : ℕ) (d : DiagnosticInfo) → diagnostic_info (suc levels) d (little_bytes 1 0)
 unfolding diagnostic_info
-diagnostic_spelled room d =
+diagnostic_spelled levels d =
     record {
       value = 0;
       parts = record {
@@ -292,7 +292,7 @@ each_nothing : (n : ℕ) → AllByRecursion (λ (d : DiagnosticInfo). Unit {0}) 
 each_nothing zero = tt
 each_nothing (suc n) = (tt, each_nothing n)
 
-diagnostics_spelled : (n : ℕ) → n ≤ MOST_ITEMS → array (diagnostic_info 101) (replicate n (record {})) (written_array (little_bytes 1) (replicate n 0))
+diagnostics_spelled : (n : ℕ) → n ≤ most_items → array (diagnostic_info 101) (replicate n (record {})) (written_array (little_bytes 1) (replicate n 0))
 diagnostics_spelled n few =
     let zeros : List ℕ = replicate n 0 in
     let nothings : List DiagnosticInfo = replicate n (record {}) in
@@ -360,18 +360,18 @@ layer_spelled S T keeps keeps_data inner outer (Variant-F.DiagnosticInfos n size
     (subst (λ (m : ℕ). KeepsShape m sizes) (sym many) kept.1))))
 
 -- both at once, by the levels that may follow
-pub record SpelledBoth (room : ℕ) : Type 0 where
-  pub variant : (v : Variant) → KeepsVariant room v → variant_spells room v (written_variant v)
-  pub stamped : (d : Stamped Variant) → KeepsDataValue room d → data_value room d (written_data_value d)
+pub record SpelledBoth (levels : ℕ) : Type 0 where
+  pub variant : (v : Variant) → KeepsVariant levels v → variant_spells levels v (written_variant v)
+  pub stamped : (d : Stamped Variant) → KeepsDataValue levels d → data_value levels d (written_data_value d)
 
-pub spelled_both : (room : ℕ) → SpelledBoth room
+pub spelled_both : (levels : ℕ) → SpelledBoth levels
 unfolding variant_spells data_value KeepsVariant KeepsDataValue
 spelled_both zero = record { variant = λ v kept. absurd kept; stamped = λ d kept. absurd kept }
-spelled_both (suc room) =
-    let below = spelled_both room in
+spelled_both (suc levels) =
+    let below = spelled_both levels in
     record {
       variant = λ v kept.
-          subst (λ (w : Variant). Chained (λ h. number 1 (head_number h)) (body (variant_spells room) (data_value room)) w (written_variant w)) (roll-out-Variant v)
-          (layer_spelled (variant_spells room) (data_value room) (KeepsVariant room) (KeepsDataValue room) below.variant below.stamped (out-Variant v) kept);
-      stamped = stamped_spelled (KeepsVariant room) (variant_spells room) below.variant;
+          subst (λ (w : Variant). Chained (λ h. number 1 (head_number h)) (body (variant_spells levels) (data_value levels)) w (written_variant w)) (roll-out-Variant v)
+          (layer_spelled (variant_spells levels) (data_value levels) (KeepsVariant levels) (KeepsDataValue levels) below.variant below.stamped (out-Variant v) kept);
+      stamped = stamped_spelled (KeepsVariant levels) (variant_spells levels) below.variant;
     }

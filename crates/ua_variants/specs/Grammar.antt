@@ -1,13 +1,13 @@
 -- The grammar of values that hold others: which bytes are a spelling of a Variant, a DataValue or a DiagnosticInfo
--- (OPC 10000-6, 5.2.2.12, 5.2.2.16 and 5.2.2.17). `room` is how many more of them may stand inside each other.
+-- (OPC 10000-6, 5.2.2.12, 5.2.2.16 and 5.2.2.17). `levels` is how many more of them may stand inside each other.
 use Rattle.std.specs.Prelude.{◌≡◌, ◌<◌, ◌*◌, ◌^◌, ℕ, zero, suc, List, [], ◌∷◌, length, Bool, Option, Some, None}
 use Rattle.std.specs.List.{AllByRecursion}
 use Rattle.std.specs.Int.{w8, w16, w32, w64}
-use Rattle.ua_values.specs.declared.fault.TheConstants.{MOST_ITEMS}
+use Rattle.ua_values.specs.Limits.{most_items}
 use Rattle.ua_values.specs.Readers.{has_bit}
 use Rattle.ua_values.specs.Parts.{number, nothing, optional, ◌followed_by◌, Chained, text, array_within, array, Begun, ChainCut, optional_cut, array_cut}
 use Rattle.ua_values.specs.Types.{boolean, signed, guid, node_id, expanded_node_id, qualified_name, localized_text, extension_object}
-use Rattle.ua_variants.specs.declared.variant.TheConstants.{MOST_DIMENSIONS}
+use Rattle.ua_variants.specs.Limits.{most_dimensions}
 use Rattle.ua_variants.specs.declared.variant.Flat.{Flat}
 use Rattle.ua_variants.specs.declared.variant.Flat.TheVariants as flat
 use Rattle.ua_variants.specs.declared.variant.Scalar.{Scalar}
@@ -116,7 +116,7 @@ product (n ∷ more) = n * product more
 
 -- none is negative, and their product is the number of elements
 abbrev pub dimensions : ℕ → List ℕ → List ℕ → Type 0
-dimensions count sizes bytes = AllByRecursion (λ n. n < 2 ^ 31) sizes × (product sizes ≡ count) × array_within MOST_DIMENSIONS (number 4) sizes bytes
+dimensions count sizes bytes = AllByRecursion (λ n. n < 2 ^ 31) sizes × (product sizes ≡ count) × array_within most_dimensions (number 4) sizes bytes
 
 -- whether an array has dimensions is said by its first byte
 abbrev pub shape : ℕ → Bool → Option (List ℕ) → List ℕ → Type 0
@@ -124,7 +124,7 @@ shape count is_there = optional is_there None (made (dimensions count) Some)
 
 -- numbers that are cut off aren't judged
 abbrev pub shape_cut : Bool → List ℕ → Type 0
-shape_cut is_there = optional_cut is_there (Begun (array_within MOST_DIMENSIONS (number 4)))
+shape_cut is_there = optional_cut is_there (Begun (array_within most_dimensions (number 4)))
 
 -- elements, and the dimensions that they may have
 abbrev pub shaped : {A : Type 0} → (A → List ℕ → Type 0) → (A → ℕ) → Bool → (A → Option (List ℕ) → Variant) → Variant → List ℕ → Type 0
@@ -146,12 +146,12 @@ details mask d =
 
 unfoldable pub diagnostic_info : ℕ → DiagnosticInfo → List ℕ → Type 0
 diagnostic_info zero d bytes = ⊥
-diagnostic_info (suc room) d bytes = Chained (number 1) (λ mask. Chained (details mask) (λ known. optional (has_bit 64 mask) (record {}) (diagnostic_info room))) d bytes
+diagnostic_info (suc levels) d bytes = Chained (number 1) (λ mask. Chained (details mask) (λ known. optional (has_bit 64 mask) (record {}) (diagnostic_info levels))) d bytes
 
 unfoldable pub diagnostic_cut : ℕ → List ℕ → Type 0
 diagnostic_cut zero bytes = ⊥
-diagnostic_cut (suc room) bytes =
-    ChainCut (number 1) (λ front. length front < 1) (λ mask. ChainCut (details mask) (Begun (details mask)) (λ known. optional_cut (has_bit 64 mask) (diagnostic_cut room))) bytes
+diagnostic_cut (suc levels) bytes =
+    ChainCut (number 1) (λ front. length front < 1) (λ mask. ChainCut (details mask) (Begun (details mask)) (λ known. optional_cut (has_bit 64 mask) (diagnostic_cut levels))) bytes
 
 -- ---- DataValue
 
@@ -202,25 +202,25 @@ body_cut inner cut stamped stamped_cut (head.One kind.DataValue) = stamped_cut
 body_cut inner cut stamped stamped_cut (head.One kind.Variant) = cut
 body_cut inner cut stamped stamped_cut (head.One kind.DiagnosticInfo) = diagnostic_cut 101
 body_cut inner cut stamped stamped_cut (head.Many (kind.Flat f) is_there) = shaped_cut (array_spells f) (Begun (array_spells f)) is_there
-body_cut inner cut stamped stamped_cut (head.Many kind.DataValue is_there) = shaped_cut (array stamped) (array_cut MOST_ITEMS stamped stamped_cut) is_there
-body_cut inner cut stamped stamped_cut (head.Many kind.Variant is_there) = shaped_cut (array inner) (array_cut MOST_ITEMS inner cut) is_there
-body_cut inner cut stamped stamped_cut (head.Many kind.DiagnosticInfo is_there) = shaped_cut (array (diagnostic_info 101)) (array_cut MOST_ITEMS (diagnostic_info 101) (diagnostic_cut 101)) is_there
+body_cut inner cut stamped stamped_cut (head.Many kind.DataValue is_there) = shaped_cut (array stamped) (array_cut most_items stamped stamped_cut) is_there
+body_cut inner cut stamped stamped_cut (head.Many kind.Variant is_there) = shaped_cut (array inner) (array_cut most_items inner cut) is_there
+body_cut inner cut stamped stamped_cut (head.Many kind.DiagnosticInfo is_there) = shaped_cut (array (diagnostic_info 101)) (array_cut most_items (diagnostic_info 101) (diagnostic_cut 101)) is_there
 
 unfoldable mutual
   pub variant_spells : ℕ → Variant → List ℕ → Type 0
   variant_spells zero v bytes = ⊥
-  variant_spells (suc room) v bytes = Chained (λ h. number 1 (head_number h)) (body (variant_spells room) (data_value room)) v bytes
+  variant_spells (suc levels) v bytes = Chained (λ h. number 1 (head_number h)) (body (variant_spells levels) (data_value levels)) v bytes
 
   pub data_value : ℕ → Stamped Variant → List ℕ → Type 0
   data_value zero d bytes = ⊥
-  data_value (suc room) d bytes = data_value_by (variant_spells room) d bytes
+  data_value (suc levels) d bytes = data_value_by (variant_spells levels) d bytes
 
 unfoldable mutual
   pub variant_cut : ℕ → List ℕ → Type 0
   variant_cut zero bytes = ⊥
-  variant_cut (suc room) bytes =
-      ChainCut (λ h. number 1 (head_number h)) (λ front. length front < 1) (body_cut (variant_spells room) (variant_cut room) (data_value room) (data_value_cut room)) bytes
+  variant_cut (suc levels) bytes =
+      ChainCut (λ h. number 1 (head_number h)) (λ front. length front < 1) (body_cut (variant_spells levels) (variant_cut levels) (data_value levels) (data_value_cut levels)) bytes
 
   pub data_value_cut : ℕ → List ℕ → Type 0
   data_value_cut zero bytes = ⊥
-  data_value_cut (suc room) bytes = data_value_cut_by (variant_spells room) (variant_cut room) bytes
+  data_value_cut (suc levels) bytes = data_value_cut_by (variant_spells levels) (variant_cut levels) bytes

@@ -2,9 +2,9 @@
 use Rattle.std.specs.Prelude.{◌≡◌, ◌<◌, ◌≤◌, ◌^◌, ℕ, zero, suc, List, length, Option, FitsSigned, IfSome}
 use Rattle.std.specs.List.{AllByRecursion}
 use Rattle.std.specs.Int.{w8, w16, w32, w64}
-use Rattle.ua_values.specs.declared.fault.TheConstants.{MOST_ITEMS}
+use Rattle.ua_values.specs.Limits.{most_items}
 use Rattle.ua_values.specs.Laws.{KeepsText, KeepsGuid, KeepsNode, KeepsExpanded, KeepsQualified, KeepsLocalized, KeepsExtension, KeepsArray}
-use Rattle.ua_variants.specs.declared.variant.TheConstants.{MOST_DIMENSIONS}
+use Rattle.ua_variants.specs.Limits.{most_dimensions}
 use Rattle.ua_variants.specs.declared.variant.Scalar.{Scalar}
 use Rattle.ua_variants.specs.declared.variant.Scalar.TheVariants as scalar
 use Rattle.ua_variants.specs.declared.variant.Array.{Array}
@@ -63,7 +63,7 @@ KeepsFlatArray (array.LocalizedText items) = KeepsArray KeepsLocalized items
 KeepsFlatArray (array.ExtensionObject items) = KeepsArray KeepsExtension items
 
 abbrev pub KeepsSizes : ℕ → List ℕ → Type 0
-KeepsSizes count sizes = (length sizes ≤ MOST_DIMENSIONS) × AllByRecursion (λ n. n < 2 ^ 31) sizes × (product sizes ≡ count)
+KeepsSizes count sizes = (length sizes ≤ most_dimensions) × AllByRecursion (λ n. n < 2 ^ 31) sizes × (product sizes ≡ count)
 
 -- dimensions, where there are some
 abbrev pub KeepsShape : ℕ → Option (List ℕ) → Type 0
@@ -87,14 +87,14 @@ KeepsLayer inner stamped Variant-F.DiagnosticInfo = Unit {0}
 KeepsLayer inner stamped (Variant-F.Array items sizes) = KeepsFlatArray items × KeepsShape (count_of_array items) sizes
 KeepsLayer inner stamped (Variant-F.DataValues items sizes) = KeepsArray stamped items × KeepsShape (length items) sizes
 KeepsLayer inner stamped (Variant-F.Variants items sizes) = KeepsArray inner items × KeepsShape (length items) sizes
-KeepsLayer inner stamped (Variant-F.DiagnosticInfos n sizes) = (n ≤ MOST_ITEMS) × KeepsShape n sizes
+KeepsLayer inner stamped (Variant-F.DiagnosticInfos n sizes) = (n ≤ most_items) × KeepsShape n sizes
 
--- `room` is how many values may stand inside each other, this one among them
+-- `levels` is how many values may stand inside each other, this one among them
 unfoldable mutual
   pub KeepsVariant : ℕ → Variant → Type 0
   KeepsVariant zero v = ⊥
-  KeepsVariant (suc room) v = KeepsLayer (KeepsVariant room) (KeepsDataValue room) (out-Variant v)
+  KeepsVariant (suc levels) v = KeepsLayer (KeepsVariant levels) (KeepsDataValue levels) (out-Variant v)
 
   pub KeepsDataValue : ℕ → Stamped Variant → Type 0
   KeepsDataValue zero d = ⊥
-  KeepsDataValue (suc room) d = KeepsStamped (KeepsVariant room) d
+  KeepsDataValue (suc levels) d = KeepsStamped (KeepsVariant levels) d

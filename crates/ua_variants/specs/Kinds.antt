@@ -1,5 +1,6 @@
 -- The built-in types by their numbers, and the first byte of a Variant (OPC 10000-6, 5.1.2 and 5.2.2.16).
 use Rattle.std.specs.Prelude.{ℕ, ◌+◌, ◌/◌, ◌%◌, ◌==◌, true, false, Result, Ok, Err, if◌then◌else◌}
+use Rattle.ua_base.specs.Status.{bad_decoding_error}
 use Rattle.ua_variants.specs.declared.variant.Flat.{Flat}
 use Rattle.ua_variants.specs.declared.variant.Flat.TheVariants as flat
 use Rattle.ua_variants.specs.declared.head.Kind.{Kind}
@@ -71,7 +72,7 @@ kind_of n =
     else if n == 23 then Ok kind.DataValue
     else if n == 24 then Ok kind.Variant
     else if n == 25 then Ok kind.DiagnosticInfo
-    else Err 0x80070000
+    else Err bad_decoding_error
 
 -- the two highest bits, and the type
 abbrev pub with_kind : ℕ → Result Kind ℕ → Result Head ℕ
@@ -80,7 +81,7 @@ with_kind high (Ok k) =
     if high == 0 then Ok (head.One k)
     else if high == 2 then Ok (head.Many k false)
     else if high == 3 then Ok (head.Many k true)
-    else Err 0x80070000
+    else Err bad_decoding_error
 
 abbrev pub head_of : ℕ → Result Head ℕ
 head_of byte = if byte == 0 then Ok head.Null else with_kind (byte / 64) (kind_of (byte % 64))

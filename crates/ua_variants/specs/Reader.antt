@@ -1,9 +1,10 @@
 -- A reader for each type, field by field.
 use Rattle.std.specs.Prelude.{◌==◌, ◌^◌, ◌&&◌, ℕ, zero, suc, nat_lt, List, [], ◌∷◌, length, Bool, true, Option, Some, None, Result, Ok, Err, if◌then◌else◌}
 use Rattle.std.specs.Int.{w8, w16, w32, w64}
+use Rattle.ua_base.specs.Status.{bad_decoding_error, bad_encoding_limits_exceeded}
 use Rattle.ua_values.specs.Reading.{Reader, ◌>>=◌, give, field_at, number_at}
 use Rattle.ua_values.specs.Readers.{boolean_at, signed_at, guid_at, text_at, node_at, has_bit, expanded_at, qualified_at, localized_at, extension_at, array_within_at, array_at, optional_at, refused_at, checked_at}
-use Rattle.ua_variants.specs.declared.variant.TheConstants.{MOST_DIMENSIONS}
+use Rattle.ua_variants.specs.Limits.{most_dimensions}
 use Rattle.ua_variants.specs.declared.variant.Flat.{Flat}
 use Rattle.ua_variants.specs.declared.variant.Flat.TheVariants as flat
 use Rattle.ua_variants.specs.declared.variant.Scalar.{Scalar}
@@ -81,10 +82,10 @@ none_negative [] = true
 none_negative (n ∷ more) = nat_lt n (2 ^ 31) && none_negative more
 
 abbrev pub judged_sizes : ℕ → List ℕ → Result (List ℕ) ℕ
-judged_sizes count sizes = if none_negative sizes && product sizes == count then Ok sizes else Err 0x80070000
+judged_sizes count sizes = if none_negative sizes && product sizes == count then Ok sizes else Err bad_decoding_error
 
 abbrev pub dimensions_at : ℕ → Reader (List ℕ)
-dimensions_at count = checked_at (array_within_at MOST_DIMENSIONS (number_at 4)) (judged_sizes count)
+dimensions_at count = checked_at (array_within_at most_dimensions (number_at 4)) (judged_sizes count)
 
 abbrev pub shape_at : ℕ → Bool → Reader (Option (List ℕ))
 shape_at count is_there = optional_at is_there None (making Some (dimensions_at count))
@@ -111,8 +112,8 @@ diagnostic_by_at inner = do
   optional_at (has_bit 64 mask) (record {}) inner
 
 unfoldable pub diagnostic_at : ℕ → Reader DiagnosticInfo
-diagnostic_at zero = refused_at 0x80080000
-diagnostic_at (suc room) = diagnostic_by_at (diagnostic_at room)
+diagnostic_at zero = refused_at bad_encoding_limits_exceeded
+diagnostic_at (suc levels) = diagnostic_by_at (diagnostic_at levels)
 
 -- ---- DataValue
 
@@ -158,9 +159,9 @@ variant_by_at inner stamped = do
 
 unfoldable mutual
   pub variant_at : ℕ → Reader Variant
-  variant_at zero = refused_at 0x80080000
-  variant_at (suc room) = variant_by_at (variant_at room) (data_value_at room)
+  variant_at zero = refused_at bad_encoding_limits_exceeded
+  variant_at (suc levels) = variant_by_at (variant_at levels) (data_value_at levels)
 
   pub data_value_at : ℕ → Reader (Stamped Variant)
-  data_value_at zero = refused_at 0x80080000
-  data_value_at (suc room) = data_value_by_at (variant_at room)
+  data_value_at zero = refused_at bad_encoding_limits_exceeded
+  data_value_at (suc levels) = data_value_by_at (variant_at levels)

@@ -1,6 +1,7 @@
 //! DiagnosticInfo: read and dropped.
 
 ghost use Rattle.std.specs.Prelude.{◌≡◌, ◌<◌, None};
+ghost use Rattle.ua_base.specs.Status.{bad_encoding_limits_exceeded};
 ghost use Rattle.ua_values.specs.Reading.{Moves, number_at};
 ghost use Rattle.ua_values.specs.Readers.{optional_at, text_at, array_at};
 ghost use Rattle.ua_variants.specs.Reader.{details_at, diagnostic_by_at, diagnostic_at};
@@ -24,7 +25,7 @@ pub(crate) struct Details {
 
 /// A value that stands inside too many others.
 pub(crate) fn too_deep(place: usize) -> ValueFault
-    ensures { result ≡ faults.Bad place 0x80080000 }
+    ensures { result ≡ faults.Bad place bad_encoding_limits_exceeded }
 {
     ValueFault::Bad {
         place,
@@ -32,33 +33,15 @@ pub(crate) fn too_deep(place: usize) -> ValueFault
     }
 }
 
-/// A UInt32 where a mask says that there is one, and 0 else.
-fn optional_uint32(is_there: bool, from: &mut Cursor<'_>) -> Result<u32, ValueFault>
-    ensures { Moves (λ n. n) result from.new (optional_at is_there 0 (number_at 4) from.old) }
-{
-    if is_there { from.uint32() } else { Ok(0) }
-}
-
-/// A text where a mask says that there is one, and null else.
-fn optional_text(alloc: Global, is_there: bool, from: &mut Cursor<'_>) -> Result<UaText, ValueFault>
-    ensures { Moves (λ t. t) result from.new (optional_at is_there None text_at from.old) }
-{
-    if is_there {
-        from.text(alloc)
-    } else {
-        Ok(UaText::null())
-    }
-}
-
 fn read_details(alloc: Global, mask: u8, from: &mut Cursor<'_>) -> Result<Details, ValueFault>
     ensures { Moves (λ d. d) result from.new (details_at mask from.old) }
 {
-    let symbolic_id = optional_uint32(has_bit(1, mask), from)?;
-    let namespace_uri = optional_uint32(has_bit(2, mask), from)?;
-    let locale = optional_uint32(has_bit(4, mask), from)?;
-    let localized_text = optional_uint32(has_bit(8, mask), from)?;
-    let additional_info = optional_text(alloc, has_bit(16, mask), from)?;
-    let inner_status = optional_uint32(has_bit(32, mask), from)?;
+    let symbolic_id = from.optional_uint32(has_bit(1, mask))?;
+    let namespace_uri = from.optional_uint32(has_bit(2, mask))?;
+    let locale = from.optional_uint32(has_bit(4, mask))?;
+    let localized_text = from.optional_uint32(has_bit(8, mask))?;
+    let additional_info = from.optional_text(alloc, has_bit(16, mask))?;
+    let inner_status = from.optional_uint32(has_bit(32, mask))?;
     Ok(Details {
         symbolic_id,
         namespace_uri,
@@ -69,35 +52,35 @@ fn read_details(alloc: Global, mask: u8, from: &mut Cursor<'_>) -> Result<Detail
     })
 }
 
-/// A DiagnosticInfo in which `room` more may stand inside each other.
+/// A DiagnosticInfo in which `levels` more may stand inside each other.
 #[cycle(diagnostics)]
 fn diagnostic_in(
     alloc: Global,
-    room: u8,
+    levels: u8,
     from: &mut Cursor<'_>,
 ) -> Result<DiagnosticInfo, ValueFault>
-    ensures { Moves (λ d. d) result from.new (diagnostic_by_at (diagnostic_at room) from.old) }
+    ensures { Moves (λ d. d) result from.new (diagnostic_by_at (diagnostic_at levels) from.old) }
 {
     let mask = from.byte()?;
     read_details(alloc, mask, from)?;
     if has_bit(64, mask) {
-        diagnostic(alloc, room, from)
+        diagnostic(alloc, levels, from)
     } else {
         Ok(DiagnosticInfo)
     }
 }
 
-/// A DiagnosticInfo, where `room` of them may stand inside each other, this one among them.
+/// A DiagnosticInfo, where `levels` of them may stand inside each other, this one among them.
 #[cycle(diagnostics)]
 pub(crate) fn diagnostic(
     alloc: Global,
-    room: u8,
+    levels: u8,
     from: &mut Cursor<'_>,
 ) -> Result<DiagnosticInfo, ValueFault>
-    ensures { Moves (λ d. d) result from.new (diagnostic_at room from.old) }
+    ensures { Moves (λ d. d) result from.new (diagnostic_at levels from.old) }
 {
-    if room == 0 {
+    if levels == 0 {
         return Err(too_deep(from.place()));
     }
-    diagnostic_in(alloc, room - 1, from)
+    diagnostic_in(alloc, levels - 1, from)
 }

@@ -5,11 +5,13 @@ ghost use Rattle.ua_values.specs.Reading.{Moves};
 ghost use Rattle.ua_variants.specs.Grammar.{product};
 ghost use Rattle.ua_variants.specs.Reader.{none_negative, dimensions_at, shape_at};
 
-use crate::variant::MOST_DIMENSIONS;
 use sqlite_items::Items;
 use std::alloc::Global;
 use ua_base::status::BAD_DECODING_ERROR;
 use ua_values::{Cursor, ValueFault, read_array_within};
+
+/// How many dimensions an array may have.
+pub const MOST_DIMENSIONS: u32 = 16;
 
 /// The product of the sizes, up to the largest number of 128 bits.
 fn product(sizes: &[u32]) -> u128

@@ -1,4 +1,5 @@
 ghost use Rattle.std.specs.Prelude.{◌≡◌};
+ghost use Rattle.ua_base.specs.Status.{bad_decoding_error};
 ghost use Rattle.ua_values.specs.Readers.{MeansOrNot};
 ghost use Rattle.ua_variants.specs.Kinds.{flat_number, kind_number, head_number, kind_of, head_of};
 
@@ -71,7 +72,7 @@ impl Kind {
 
     /// The type of that number, where it has one.
     pub(crate) fn of(number: u8) -> Option<Kind>
-        ensures { MeansOrNot result (kind_of number) 0x80070000 }
+        ensures { MeansOrNot result (kind_of number) bad_decoding_error }
     {
         Some(match number {
             1 => Kind::Flat(Flat::Boolean),
@@ -119,13 +120,13 @@ impl Head {
 
     /// What the byte says, where it says something.
     pub(crate) fn of(byte: u8) -> Option<Head>
-        ensures { MeansOrNot result (head_of byte) 0x80070000 }
+        ensures { MeansOrNot result (head_of byte) bad_decoding_error }
     {
         if byte == 0 {
             return Some(Head::Null);
         }
-        let kind = Kind::of(byte % 64)?;
-        match byte / 64 {
+        let kind = Kind::of(byte & 63)?;
+        match byte >> 6 {
             0 => Some(Head::One(kind)),
             2 => Some(Head::Many(kind, false)),
             3 => Some(Head::Many(kind, true)),

@@ -99,15 +99,15 @@ fn diagnostics(
 #[cycle(reads)]
 fn variants(
     alloc: Global,
-    room: u8,
+    levels: u8,
     count: u32,
     from: &mut Cursor<'_>,
 ) -> Result<Items<Variant>, ValueFault>
-    ensures { Moves (λ items. items) result from.new (elements_at count (variant_at room) from.old) }
+    ensures { Moves (λ items. items) result from.new (elements_at count (variant_at levels) from.old) }
 {
     let mut items = Items::new(alloc);
     for _i in 0..count {
-        let element = variant(alloc, room, from)?;
+        let element = variant(alloc, levels, from)?;
         items.push(element)?;
     }
     Ok(items)
@@ -117,24 +117,24 @@ fn variants(
 #[cycle(reads)]
 fn data_values(
     alloc: Global,
-    room: u8,
+    levels: u8,
     count: u32,
     from: &mut Cursor<'_>,
 ) -> Result<Items<DataValue>, ValueFault>
-    ensures { Moves (λ items. items) result from.new (elements_at count (data_value_at room) from.old) }
+    ensures { Moves (λ items. items) result from.new (elements_at count (data_value_at levels) from.old) }
 {
     let mut items = Items::new(alloc);
     for _i in 0..count {
-        let element = data_value(alloc, room, from)?;
+        let element = data_value(alloc, levels, from)?;
         items.push(element)?;
     }
     Ok(items)
 }
 
-/// What follows the first byte of a Variant, in which `room` more may stand inside each other.
+/// What follows the first byte of a Variant, in which `levels` more may stand inside each other.
 #[cycle(reads)]
-fn body(alloc: Global, room: u8, head: Head, from: &mut Cursor<'_>) -> Result<Variant, ValueFault>
-    ensures { Moves (λ v. v) result from.new (body_at (variant_at room) (data_value_at room) head from.old) }
+fn body(alloc: Global, levels: u8, head: Head, from: &mut Cursor<'_>) -> Result<Variant, ValueFault>
+    ensures { Moves (λ v. v) result from.new (body_at (variant_at levels) (data_value_at levels) head from.old) }
 {
     match head {
         Head::Null => Ok(Variant::Null),
@@ -143,11 +143,11 @@ fn body(alloc: Global, room: u8, head: Head, from: &mut Cursor<'_>) -> Result<Va
             Ok(Variant::Scalar(value))
         }
         Head::One(Kind::DataValue) => {
-            let value = data_value(alloc, room, from)?;
+            let value = data_value(alloc, levels, from)?;
             Ok(Variant::DataValue(Boxed::new(alloc, value)?))
         }
         Head::One(Kind::Variant) => {
-            let value = variant(alloc, room, from)?;
+            let value = variant(alloc, levels, from)?;
             Ok(Variant::Variant(Boxed::new(alloc, value)?))
         }
         Head::One(Kind::DiagnosticInfo) => {
@@ -161,13 +161,13 @@ fn body(alloc: Global, room: u8, head: Head, from: &mut Cursor<'_>) -> Result<Va
         }
         Head::Many(Kind::DataValue, is_there) => {
             let count = from.count(MOST_ITEMS)?;
-            let items = data_values(alloc, room, count, from)?;
+            let items = data_values(alloc, levels, count, from)?;
             let sizes = shape(alloc, items.len(), is_there, from)?;
             Ok(Variant::DataValues(items, sizes))
         }
         Head::Many(Kind::Variant, is_there) => {
             let count = from.count(MOST_ITEMS)?;
-            let items = variants(alloc, room, count, from)?;
+            let items = variants(alloc, levels, count, from)?;
             let sizes = shape(alloc, items.len(), is_there, from)?;
             Ok(Variant::Variants(items, sizes))
         }
@@ -180,65 +180,69 @@ fn body(alloc: Global, room: u8, head: Head, from: &mut Cursor<'_>) -> Result<Va
     }
 }
 
-/// A Variant in which `room` more may stand inside each other.
+/// A Variant in which `levels` more may stand inside each other.
 #[cycle(reads)]
-fn variant_in(alloc: Global, room: u8, from: &mut Cursor<'_>) -> Result<Variant, ValueFault>
-    ensures { Moves (λ v. v) result from.new (variant_by_at (variant_at room) (data_value_at room) from.old) }
+fn variant_in(alloc: Global, levels: u8, from: &mut Cursor<'_>) -> Result<Variant, ValueFault>
+    ensures { Moves (λ v. v) result from.new (variant_by_at (variant_at levels) (data_value_at levels) from.old) }
 {
     let head = head(from)?;
-    body(alloc, room, head, from)
+    body(alloc, levels, head, from)
 }
 
-/// A Variant, where `room` of them may stand inside each other, this one among them.
+/// A Variant, where `levels` of them may stand inside each other, this one among them.
 #[cycle(reads)]
-pub(crate) fn variant(alloc: Global, room: u8, from: &mut Cursor<'_>) -> Result<Variant, ValueFault>
-    ensures { Moves (λ v. v) result from.new (variant_at room from.old) }
+pub(crate) fn variant(
+    alloc: Global,
+    levels: u8,
+    from: &mut Cursor<'_>,
+) -> Result<Variant, ValueFault>
+    ensures { Moves (λ v. v) result from.new (variant_at levels from.old) }
 {
-    if room == 0 {
+    if levels == 0 {
         return Err(too_deep(from.place()));
     }
-    variant_in(alloc, room - 1, from)
+    variant_in(alloc, levels - 1, from)
 }
 
 #[cycle(reads)]
 fn some_variant(
     alloc: Global,
-    room: u8,
+    levels: u8,
     is_there: bool,
     from: &mut Cursor<'_>,
 ) -> Result<Option<Variant>, ValueFault>
-    ensures { Moves (λ v. v) result from.new (optional_at is_there None (making Some (variant_at room)) from.old) }
+    ensures { Moves (λ v. v) result from.new (optional_at is_there None (making Some (variant_at levels)) from.old) }
 {
     if is_there {
-        let value = variant(alloc, room, from)?;
+        let value = variant(alloc, levels, from)?;
         Ok(Some(value))
     } else {
         Ok(None)
     }
 }
 
-/// A DataValue in which `room` more may stand inside each other.
+/// A DataValue in which `levels` more may stand inside each other.
 #[cycle(reads)]
-fn data_value_in(alloc: Global, room: u8, from: &mut Cursor<'_>) -> Result<DataValue, ValueFault>
-    ensures { Moves (λ d. d) result from.new (data_value_by_at (variant_at room) from.old) }
+fn data_value_in(alloc: Global, levels: u8, from: &mut Cursor<'_>) -> Result<DataValue, ValueFault>
+    ensures { Moves (λ d. d) result from.new (data_value_by_at (variant_at levels) from.old) }
 {
     let mask = from.byte()?;
-    let value = some_variant(alloc, room, has_bit(1, mask), from)?;
+    let value = some_variant(alloc, levels, has_bit(1, mask), from)?;
     let fields = stamps(mask, from)?;
     Ok(fields.with(value))
 }
 
-/// A DataValue, where `room` of them may stand inside each other, this one among them.
+/// A DataValue, where `levels` of them may stand inside each other, this one among them.
 #[cycle(reads)]
 pub(crate) fn data_value(
     alloc: Global,
-    room: u8,
+    levels: u8,
     from: &mut Cursor<'_>,
 ) -> Result<DataValue, ValueFault>
-    ensures { Moves (λ d. d) result from.new (data_value_at room from.old) }
+    ensures { Moves (λ d. d) result from.new (data_value_at levels from.old) }
 {
-    if room == 0 {
+    if levels == 0 {
         return Err(too_deep(from.place()));
     }
-    data_value_in(alloc, room - 1, from)
+    data_value_in(alloc, levels - 1, from)
 }

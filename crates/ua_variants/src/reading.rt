@@ -36,7 +36,8 @@ pub fn read_data_value(alloc: Global, bytes: &[u8]) -> Result<(DataValue, usize)
     from.sized(value)
 }
 
-/// Reads a DiagnosticInfo (OPC 10000-6, 5.2.2.12) at the front of the bytes, of which nothing is kept: how many bytes it takes.
+/// Reads a DiagnosticInfo (OPC 10000-6, 5.2.2.12) at the front of the bytes, of which nothing is kept: how many bytes
+/// it takes.
 pub fn read_diagnostic_info(
     alloc: Global,
     bytes: &[u8],

@@ -7,9 +7,6 @@ use ua_values::{
 };
 use uuid::Uuid;
 
-/// How many dimensions an array may have.
-pub const MOST_DIMENSIONS: u32 = 16;
-
 /// How many Variants and DataValues, or how many DiagnosticInfos, may stand inside each other.
 pub const MOST_DEPTH: u8 = 101;
 
@@ -189,7 +186,8 @@ pub enum Variant {
     DataValue(Boxed<DataValue>),
     Variant(Boxed<Variant>),
     DiagnosticInfo,
-    /// Values that hold no others. Here as below the sizes of the dimensions may follow; their product is the number of elements.
+    /// Values that hold no others. Here as below the sizes of the dimensions may follow; their product is the number of
+    /// elements.
     Array(Array, Option<Items<u32>>),
     DataValues(Items<DataValue>, Option<Items<u32>>),
     Variants(Items<Variant>, Option<Items<u32>>),

@@ -5,7 +5,7 @@ ghost use Rattle.std.specs.List.{flat_map};
 ghost use Rattle.std.specs.Option.{is_some};
 ghost use Rattle.std.specs.Int.{w64};
 ghost use Rattle.byteorder.specs.Endian.{little_bytes};
-ghost use Rattle.ua_values.specs.Written.{written_signed, flag};
+ghost use Rattle.ua_values.specs.Written.{written_signed};
 ghost use Rattle.ua_variants.specs.Spelling.{written_shape, written_head, written_some, mask_of, written_stamps, written_variant, written_data_value};
 
 use crate::flat::{put_flat_array, put_scalar};
@@ -14,7 +14,7 @@ use crate::variant::{DataValue, Variant};
 use sqlite_items::Items;
 use std::alloc::Global;
 use ua_base::OutOfMemory;
-use ua_values::{put_array, write_byte, write_int64, write_uint16, write_uint32};
+use ua_values::{flag, put_array, write_byte, write_int64, write_uint16, write_uint32};
 
 fn put_shape(sizes: &Option<Items<u32>>, to: &mut Vec<u8>) -> Result<(), OutOfMemory>
     ensures { OnOk result (to.new.items ≡ to.old.items ++ written_shape sizes.now) }
@@ -36,7 +36,7 @@ fn put_head(kind: Kind, sizes: &Option<Items<u32>>, to: &mut Vec<u8>) -> Result<
 fn put_count(count: usize, to: &mut Vec<u8>) -> Result<(), OutOfMemory>
     ensures { OnOk result (to.new.items ≡ to.old.items ++ little_bytes 4 (count % 2 ^ 32)) }
 {
-    write_uint32((count as u64 % (1 << 32)) as u32, to)
+    write_uint32((count as u64 & 0xFFFF_FFFF) as u32, to)
 }
 
 fn put_some_uint16(value: Option<u16>, to: &mut Vec<u8>) -> Result<(), OutOfMemory>
@@ -64,13 +64,6 @@ fn put_some_int64(value: Option<i64>, to: &mut Vec<u8>) -> Result<(), OutOfMemor
         None => Ok(()),
         Some(value) => write_int64(value, to),
     }
-}
-
-/// A field's bit in the mask, or 0 where the field is missing.
-fn flag(worth: u8, is_there: bool) -> u8
-    ensures { result ≡ flag worth is_there }
-{
-    if is_there { worth } else { 0 }
 }
 
 /// Which fields are there.

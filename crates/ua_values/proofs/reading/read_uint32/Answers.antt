@@ -5,7 +5,7 @@ use Rattle.ua_values.proofs.Answers.{exact_by, spelled_by}
 use Rattle.ua_values.proofs.reading.read_uint32.Goals as goal
 
 pub returns-clause-exact : goal.returns-clause-exact
-returns-clause-exact c = exact_by (number_at 4) c.args.bytes.now c.new-from.result c.uint32-value.result c.uint32-value.new.self c.sized.result c.new-from.ensures c.uint32-value.ensures c.sized.ensures
+returns-clause-exact c = exact_by (number_at 4) c.args.bytes.now c.new-from.result c.uint32-value.result c.uint32-value.new.self c.sized.result c.new-from.ensures c.uint32-value.ensures.exact c.sized.ensures
 
 pub returns-clause-spelled : goal.returns-clause-spelled
-returns-clause-spelled c = spelled_by (number 4) (number_at 4) number32_codec c.args.bytes.now c.new-from.result c.uint32-value.result c.uint32-value.new.self c.sized.result c.new-from.ensures c.uint32-value.ensures c.sized.ensures
+returns-clause-spelled c = spelled_by (number 4) (number_at 4) number32_codec c.args.bytes.now c.new-from.result c.uint32-value.result c.uint32-value.new.self c.sized.result c.new-from.ensures c.uint32-value.ensures.exact c.sized.ensures
