@@ -1,4 +1,8 @@
+ghost use Rattle.std.specs.Prelude.{◌≡◌, IfOk};
+
 use crate::run::UaText;
+use std::alloc::Global;
+use ua_base::OutOfMemory;
 
 /// A name in a namespace (OPC 10000-3, 8.3).
 #[derive(Debug, Drop)]
@@ -12,4 +16,28 @@ pub struct QualifiedName {
 pub struct LocalizedText {
     pub locale: UaText,
     pub text: UaText,
+}
+
+impl QualifiedName {
+    /// The same name once more.
+    pub fn copy(&self, alloc: Global) -> Result<QualifiedName, OutOfMemory>
+        ensures { IfOk result (λ copied. copied ≡ self.now) }
+    {
+        let name = self.name.copy(alloc)?;
+        Ok(QualifiedName {
+            namespace: self.namespace,
+            name,
+        })
+    }
+}
+
+impl LocalizedText {
+    /// The same text once more.
+    pub fn copy(&self, alloc: Global) -> Result<LocalizedText, OutOfMemory>
+        ensures { IfOk result (λ copied. copied ≡ self.now) }
+    {
+        let locale = self.locale.copy(alloc)?;
+        let text = self.text.copy(alloc)?;
+        Ok(LocalizedText { locale, text })
+    }
 }

@@ -58,6 +58,18 @@ pub struct ExpandedNodeId {
     pub server: u32,
 }
 
+impl ExpandedNodeId {
+    /// The same name once more.
+    pub fn copy(&self, alloc: Global) -> Result<ExpandedNodeId, OutOfMemory>
+        ensures { IfOk result (λ copied. copied ≡ self.now) }
+    {
+        let node = self.node.copy(alloc)?;
+        let uri = self.uri.copy(alloc)?;
+        let server = self.server;
+        Ok(ExpandedNodeId { node, uri, server })
+    }
+}
+
 /// How a NodeId stands in bytes (OPC 10000-6, 5.2.2.9).
 #[derive(Clone, Copy, Debug, PartialEq, Eq)]
 pub(crate) enum Form {
