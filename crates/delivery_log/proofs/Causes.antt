@@ -16,7 +16,7 @@ use Rattle.delivery_log.specs.declared.rule.Verdict.TheVariants.{Nothing, Delive
 use Rattle.delivery_log.specs.Judge.{has_overflow, verdict_after, verdict_of}
 use Rattle.delivery_log.specs.Log.{data_line, lines_by, timed_lines}
 use Rattle.delivery_log.specs.Caused.{IsCause, IsCaused, Caused}
-use Rattle.delivery_log.specs.History.{Act, Enter, Set, Note, joint_of, last_stamp, lines_after, lines_of}
+use Rattle.delivery_log.specs.History.{Act, Enter, Set, TurnOne, TurnAll, Note, joint_of, last_stamp, lines_after, lines_of}
 use Rattle.delivery_log.specs.WellFed.{is_note, IsNoteAct, AreNotes, IsFedAct, IsFed}
 
 -- reads of two lists joined
@@ -116,6 +116,8 @@ note_gap (suc place) item cause noted n h = absurd cc
 own_gap : (act : Act) (earlier : List Act) (place item : ℕ) (cause : GapCause) → IsNoteAct act → slice_get (lines_after act earlier) place ≡ Some (line.Gap item cause) → IsOwn act earlier place item cause
 own_gap (Enter server i entry) earlier place item cause n h = own_timed server i item place entry earlier cause entry.time refl h
 own_gap (Set server i joint) earlier place item cause n h = absurd cc
+own_gap (TurnOne server i turn) earlier place item cause n h = absurd cc
+own_gap (TurnAll server turn) earlier place item cause n h = absurd cc
 own_gap (Note noted) earlier place item cause n h = absurd (note_gap place item cause noted n h)
 
 -- a gap line of an earlier act
@@ -174,6 +176,8 @@ caused_lines history n = record { each = λ place item cause h. caused_at histor
 note_from_fed : (source : List Change) (act : Act) → IsFedAct source act → IsNoteAct act
 note_from_fed source (Enter server item entry) h = tt
 note_from_fed source (Set server item joint) h = tt
+note_from_fed source (TurnOne server item turn) h = tt
+note_from_fed source (TurnAll server turn) h = tt
 note_from_fed source (Note line) h = h
 
 -- what is fed has notes alone beside its entries

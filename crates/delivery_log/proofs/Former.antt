@@ -9,7 +9,7 @@ use Rattle.set_model.specs.Source.{of_item, stamp_of, Rises}
 use Rattle.set_model.specs.Stamp.{is_before}
 use Rattle.delivery_log.specs.Judge.{has_overflow, later}
 use Rattle.delivery_log.specs.Safe.{IsChangeAt}
-use Rattle.delivery_log.specs.History.{Act, Enter, Set, Note, last_stamp, previous}
+use Rattle.delivery_log.specs.History.{Act, Enter, Set, TurnOne, TurnAll, Note, last_stamp, previous}
 use Rattle.delivery_log.specs.WellFed.{Linked}
 use Rattle.delivery_log.proofs.Stamps.{apart, still_not_before}
 use Rattle.delivery_log.proofs.Places.{place_from_stamp}
@@ -57,6 +57,8 @@ previous_reached server item (Enter s i entry ∷ earlier) former stamp h timed 
     entered_reaches (s == server) (i == item) entry former (previous server item earlier) (last_stamp item earlier) stamp
     (λ e. previous_reached server item earlier former stamp e timed) h timed
 previous_reached server item (Set s i joint ∷ earlier) former stamp h timed = previous_reached server item earlier former stamp h timed
+previous_reached server item (TurnOne s i turn ∷ earlier) former stamp h timed = previous_reached server item earlier former stamp h timed
+previous_reached server item (TurnAll s turn ∷ earlier) former stamp h timed = previous_reached server item earlier former stamp h timed
 previous_reached server item (Note line ∷ earlier) former stamp h timed = previous_reached server item earlier former stamp h timed
 
 -- a change of the same stamp as another has no later place

@@ -1,20 +1,21 @@
 -- What the log keeps is what its history says.
-use Rattle.std.proofs.Common.{◌≡◌, ◌==◌, ◌&&◌, ℕ, ◌-◌, ◌<◌, ◌≤◌, ◌≢◌, ◌⊎◌, inl, inr, List, [], ◌∷◌, ◌++◌, length, Bool, true, false, cond, Option, None, replicate, slice_index_or, slice_set, refl, sym, ◌∙◌, ap, arith, length-set}
+use Rattle.std.proofs.Common.{◌≡◌, ◌==◌, ◌&&◌, ℕ, ◌-◌, ◌<◌, ◌≤◌, ◌≢◌, ◌⊎◌, inl, inr, List, [], ◌∷◌, ◌++◌, length, Bool, true, false, cond, Option, None, map, replicate, slice_index_or, slice_set, refl, sym, ◌∙◌, ap, arith, length-set}
 use Rattle.std.proofs.lemmas.Bool.{cases_eq}
 use Rattle.std.proofs.lemmas.Bool.Decides.{nat_tests}
 use Rattle.std.proofs.lemmas.Grind.{get_or-set_at}
-use Rattle.std.proofs.lemmas.List.{append-nil, get_or-set_other, get_or-replicate, length-replicate}
+use Rattle.std.proofs.lemmas.List.{append-nil, get_or-map, length-map, get_or-set_other, get_or-replicate, length-replicate}
 use Rattle.set_model.specs.declared.line.Arrived.{Arrived}
 use Rattle.set_model.specs.declared.line.GapCause.TheVariants.{Late}
 use Rattle.set_model.specs.declared.line.LogLine.{LogLine}
 use Rattle.set_model.specs.declared.stamp.Stamp.{Stamp}
 use Rattle.delivery_log.specs.declared.rule.Joint.{Joint}
 use Rattle.delivery_log.specs.declared.rule.Joint.TheVariants.{Open}
-use Rattle.delivery_log.specs.Judge.{joint_after, later}
+use Rattle.delivery_log.specs.declared.rule.Turn.{Turn}
+use Rattle.delivery_log.specs.Judge.{joint_after, later, turned}
 use Rattle.delivery_log.specs.State.{LogState}
 use Rattle.delivery_log.specs.Rows.{HaveWidth}
-use Rattle.delivery_log.specs.Log.{Covers, IsWithin, entered, entry_lines, joint_at, last_kept, new_log, noted, with_joint}
-use Rattle.delivery_log.specs.History.{Act, Enter, Set, Note, joint_of, last_stamp, lines_of, acted, log_of, IsActWithin, AreWithin, StandsFor}
+use Rattle.delivery_log.specs.Log.{Covers, IsServerWithin, IsWithin, with_turned, with_all_turned, entered, entry_lines, joint_at, last_kept, new_log, noted, with_joint}
+use Rattle.delivery_log.specs.History.{Act, Enter, Set, TurnOne, TurnAll, Note, joint_of, last_stamp, lines_of, acted, log_of, IsActWithin, AreWithin, StandsFor}
 
 -- one element of a list is written
 set_test : {X : Type 0} (xs : List X) (i j : ℕ) (x d : X) → i - 1 < length xs → 1 ≤ i → 1 ≤ j → (b : Bool) → (i == j) ≡ b
@@ -99,15 +100,15 @@ keeps_note servers items earlier log line k = record {
   width = k.width;
 }
 
-entered_joint : (earlier : List Act) (entry : Arrived) (s i server item : ℕ) (here other : Joint) → here ≡ joint_of s i earlier → other ≡ joint_of server item earlier
+turned_joint : (earlier : List Act) (does : Joint → Joint) (s i server item : ℕ) (here other : Joint) → here ≡ joint_of s i earlier → other ≡ joint_of server item earlier
     → (b c : Bool) → (s == server) ≡ b → (i == item) ≡ c
-    → cond (b && c) (joint_after entry.time here) other ≡ cond (b && c) (joint_after entry.time (joint_of server item earlier)) (joint_of server item earlier)
-entered_joint earlier entry s i server item here other h o true true e f =
+    → cond (b && c) (does here) other ≡ cond (b && c) (does (joint_of server item earlier)) (joint_of server item earlier)
+turned_joint earlier does s i server item here other h o true true e f =
     let s_is : s ≡ server = grind (arith, nat_tests) in
     let i_is : i ≡ item = grind (arith, nat_tests) in
-    ap (joint_after entry.time) (h ∙ ap (λ n. joint_of n i earlier) s_is ∙ ap (λ n. joint_of server n earlier) i_is)
-entered_joint earlier entry s i server item here other h o true false e f = o
-entered_joint earlier entry s i server item here other h o false c e f = o
+    ap does (h ∙ ap (λ n. joint_of n i earlier) s_is ∙ ap (λ n. joint_of server n earlier) i_is)
+turned_joint earlier does s i server item here other h o true false e f = o
+turned_joint earlier does s i server item here other h o false c e f = o
 
 entered_last : (earlier : List Act) (entry : Arrived) (i item : ℕ) (here other : Option Stamp) → here ≡ last_stamp i earlier → other ≡ last_stamp item earlier
     → (c : Bool) → (i == item) ≡ c
@@ -116,6 +117,54 @@ entered_last earlier entry i item here other h o true f =
     let is : i ≡ item = grind (arith, nat_tests) in
     ap (λ l. later l entry.time) (h ∙ ap (λ n. last_stamp n earlier) is)
 entered_last earlier entry i item here other h o false f = o
+
+keeps_turn : (servers items : ℕ) (earlier : List Act) (log : LogState) (s i : ℕ) (turn : Turn) → IsWithin servers items s i → Keeps servers items earlier log
+    → Keeps servers items (TurnOne s i turn ∷ earlier) (with_turned s i turn log)
+keeps_turn servers items earlier log s i turn w k =
+    let here : joint_at s i log ≡ joint_of s i earlier = k.stands.joints s i w in
+    record {
+      stands = record {
+        lines = k.stands.lines ∙ sym (append-nil (lines_of earlier));
+        joints = λ server item v.
+            joint_is servers items log s i server item (turned turn (joint_at s i log)) k.servers_are k.width w v
+            ∙ turned_joint earlier (turned turn) s i server item (joint_at s i log) (joint_at server item log) here (k.stands.joints server item v) (s == server) (i == item) refl refl;
+        lasts = k.stands.lasts;
+      };
+      servers_are = length-set log.joints (s - 1) _ ∙ k.servers_are;
+      items_are = k.items_are;
+      width = row_width servers items log s i (turned turn (joint_at s i log)) k.servers_are k.width w;
+    }
+
+-- all joints of a server are turned
+row_turned : (joints : List (List Joint)) (servers items s server item : ℕ) (f : Joint → Joint) (d : Joint) → length joints ≡ servers → HaveWidth items joints → IsServerWithin servers s → IsWithin servers items server item
+    → (b : Bool) → (s == server) ≡ b
+    → slice_index_or (slice_index_or (slice_set joints (s - 1) (map f (slice_index_or joints (s - 1) []))) (server - 1) []) (item - 1) d
+    ≡ cond b (f (slice_index_or (slice_index_or joints (server - 1) []) (item - 1) d)) (slice_index_or (slice_index_or joints (server - 1) []) (item - 1) d)
+row_turned joints servers items s server item f d long wide w v true e =
+    let wide_here : length (slice_index_or joints (s - 1) []) ≡ items = wide.each (s - 1) (omega arith) in
+    let is : s ≡ server = grind (arith, nat_tests) in
+    ap (λ row. slice_index_or row (item - 1) d) (set_test joints s server (map f (slice_index_or joints (s - 1) [])) [] (omega arith) w.server_from v.server_from true e)
+    ∙ get_or-map f (slice_index_or joints (s - 1) []) (item - 1) d d (omega arith)
+    ∙ ap (λ n. f (slice_index_or (slice_index_or joints (n - 1) []) (item - 1) d)) is
+row_turned joints servers items s server item f d long wide w v false e =
+    ap (λ row. slice_index_or row (item - 1) d) (set_test joints s server (map f (slice_index_or joints (s - 1) [])) [] (omega arith) w.server_from v.server_from false e)
+
+keeps_turn_all : (servers items : ℕ) (earlier : List Act) (log : LogState) (s : ℕ) (turn : Turn) → IsServerWithin servers s → Keeps servers items earlier log
+    → Keeps servers items (TurnAll s turn ∷ earlier) (with_all_turned s turn log)
+keeps_turn_all servers items earlier log s turn w k =
+    let row : List Joint = slice_index_or log.joints (s - 1) [] in
+    record {
+      stands = record {
+        lines = k.stands.lines ∙ sym (append-nil (lines_of earlier));
+        joints = λ server item v.
+            row_turned log.joints servers items s server item (turned turn) (Open Late) k.servers_are k.width w v (s == server) refl
+            ∙ ap (λ j. cond (s == server) (turned turn j) j) (k.stands.joints server item v);
+        lasts = k.stands.lasts;
+      };
+      servers_are = length-set log.joints (s - 1) _ ∙ k.servers_are;
+      items_are = k.items_are;
+      width = width_set log.joints (s - 1) (map (turned turn) row) items k.width (length-map row (turned turn) ∙ k.width.each (s - 1) (let long : length log.joints ≡ servers = k.servers_are in omega arith));
+    }
 
 keeps_enter : (servers items : ℕ) (earlier : List Act) (log : LogState) (s i : ℕ) (entry : Arrived) → IsWithin servers items s i → Keeps servers items earlier log
     → Keeps servers items (Enter s i entry ∷ earlier) (entered s i entry log)
@@ -130,7 +179,7 @@ keeps_enter servers items earlier log s i entry w k =
             ∙ ap (λ j. lines_of earlier ++ entry_lines i entry (last_stamp i earlier) j) here;
         joints = λ server item v.
             joint_is servers items log s i server item (joint_after entry.time (joint_at s i log)) k.servers_are k.width w v
-            ∙ entered_joint earlier entry s i server item (joint_at s i log) (joint_at server item log) here (k.stands.joints server item v) (s == server) (i == item) refl refl;
+            ∙ turned_joint earlier (joint_after entry.time) s i server item (joint_at s i log) (joint_at server item log) here (k.stands.joints server item v) (s == server) (i == item) refl refl;
         lasts = λ item from to.
             last_is log.lasts items i item (later (last_kept i log) entry.time) k.items_are w.item_from w.item_to from
             ∙ entered_last earlier entry i item (last_kept i log) (last_kept item log) last (k.stands.lasts item from to) (i == item) refl;
@@ -163,6 +212,8 @@ keeps_act : (servers items : ℕ) (act : Act) (earlier : List Act) (log : LogSta
     → Keeps servers items (act ∷ earlier) (acted act log)
 keeps_act servers items (Enter s i entry) earlier log w k = keeps_enter servers items earlier log s i entry w k
 keeps_act servers items (Set s i joint) earlier log w k = keeps_set servers items earlier log s i joint w k
+keeps_act servers items (TurnOne s i turn) earlier log w k = keeps_turn servers items earlier log s i turn w k
+keeps_act servers items (TurnAll s turn) earlier log w k = keeps_turn_all servers items earlier log s turn w k
 keeps_act servers items (Note line) earlier log w k = keeps_note servers items earlier log line k
 
 pub keeps_of : (servers items : ℕ) (history : List Act) → AreWithin servers items history → Keeps servers items history (log_of servers items history)
@@ -190,6 +241,12 @@ covers_sizes server item log other j l c = record { server_from = c.server_from;
 
 pub covers-with_joint : (server item s i : ℕ) (joint : Joint) (log : LogState) → Covers server item log → Covers server item (with_joint s i joint log)
 covers-with_joint server item s i joint log c = covers_sizes server item log (with_joint s i joint log) (length-set log.joints (s - 1) _) refl c
+
+pub covers-with_turned : (server item s i : ℕ) (turn : Turn) (log : LogState) → Covers server item log → Covers server item (with_turned s i turn log)
+covers-with_turned server item s i turn log c = covers_sizes server item log (with_turned s i turn log) (length-set log.joints (s - 1) _) refl c
+
+pub covers-with_all_turned : (server item s : ℕ) (turn : Turn) (log : LogState) → Covers server item log → Covers server item (with_all_turned s turn log)
+covers-with_all_turned server item s turn log c = covers_sizes server item log (with_all_turned s turn log) (length-set log.joints (s - 1) _) refl c
 
 pub covers-entered : (server item s i : ℕ) (entry : Arrived) (log : LogState) → Covers server item log → Covers server item (entered s i entry log)
 covers-entered server item s i entry log c = covers_sizes server item log (entered s i entry log) (length-set log.joints (s - 1) _) (length-set log.lasts (i - 1) _) c

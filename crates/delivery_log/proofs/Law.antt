@@ -13,7 +13,7 @@ use Rattle.delivery_log.specs.declared.rule.Joint.TheVariants.{Joined}
 use Rattle.delivery_log.specs.Judge.{has_overflow, later, verdict_of}
 use Rattle.delivery_log.specs.Log.{entry_lines, lines_by}
 use Rattle.delivery_log.specs.Safe.{Part, part_of, parts_of, IsChangeAt, Safe, InOrder}
-use Rattle.delivery_log.specs.History.{Act, Enter, Set, Note, joint_of, last_by, last_stamp, lines_after, lines_of}
+use Rattle.delivery_log.specs.History.{Act, Enter, Set, TurnOne, TurnAll, Note, joint_of, last_by, last_stamp, lines_after, lines_of}
 use Rattle.delivery_log.specs.WellFed.{is_note, IsFedEntry, IsFedAct, IsLinkedAct, IsFed, WellFed}
 use Rattle.delivery_log.proofs.Steps.{IsLast, WalksOn, own_step, stays, stays_other, parts_of_own, parts_of_other, walk_on, safe_from_walk, in_order_from_walk}
 use Rattle.delivery_log.proofs.Former.{linked_next}
@@ -89,6 +89,8 @@ act_step : (told : Bool) (source : List Change) (item : ℕ) (act : Act) (earlie
 act_step told source item (Enter server i entry) earlier used rises l fed links =
     entry_step told source item server i entry earlier used rises l fed links (i == item) refl
 act_step told source item (Set server i joint) earlier used rises l fed links = stays told (of_item item source) used (last_stamp item earlier) l
+act_step told source item (TurnOne server i turn) earlier used rises l fed links = stays told (of_item item source) used (last_stamp item earlier) l
+act_step told source item (TurnAll server turn) earlier used rises l fed links = stays told (of_item item source) used (last_stamp item earlier) l
 act_step told source item (Note line) earlier used rises l fed links = note_step told (of_item item source) item line used (last_stamp item earlier) l fed
 
 -- one step after a walk

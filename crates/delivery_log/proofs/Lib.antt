@@ -7,3 +7,4 @@ pub mod Causes
 pub mod Kept
 pub mod KeptLaws
 pub mod ReadingLemmas
+pub mod Joined

@@ -19,7 +19,8 @@ IsCause (Open cause) entry told = told ≡ cause
 IsCause Held entry told = told ≡ Warm
 IsCause Joined entry told = (told ≡ Overflow) × (has_overflow entry.status ≡ true)
 
--- at a place of the log stands the gap line of an entry that was entered then, with its data line next and its true cause
+-- at a place of the log stands the gap line of an entry that was entered then, with its data line next and its true
+-- cause
 pub record IsCaused (history : List Act) (log : List LogLine) (place item : ℕ) (cause : GapCause) : Type 0 where
   pub after : List Act
   pub before : List Act
@@ -34,4 +35,5 @@ pub record IsCaused (history : List Act) (log : List LogLine) (place item : ℕ)
 
 -- each gap line is there for an entry, and has its cause
 pub record Caused (history : List Act) (log : List LogLine) : Type 0 where
-  pub each : (place item : ℕ) (cause : GapCause) → slice_get log place ≡ Some (line.Gap item cause) → IsCaused history log place item cause
+  pub each : (place item : ℕ) (cause : GapCause) → slice_get log place ≡ Some (line.Gap item cause)
+      → IsCaused history log place item cause

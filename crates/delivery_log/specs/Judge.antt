@@ -6,6 +6,8 @@ use Rattle.set_model.specs.declared.stamp.Stamp.{Stamp}
 use Rattle.set_model.specs.Stamp.{is_before}
 use Rattle.delivery_log.specs.declared.rule.Joint.{Joint}
 use Rattle.delivery_log.specs.declared.rule.Joint.TheVariants.{Joined, Open, Held}
+use Rattle.delivery_log.specs.declared.rule.Turn.{Turn}
+use Rattle.delivery_log.specs.declared.rule.Turn.TheVariants.{Become, Loosen, Confirm}
 use Rattle.delivery_log.specs.declared.rule.Verdict.{Verdict}
 use Rattle.delivery_log.specs.declared.rule.Verdict.TheVariants.{Nothing, Deliver, GapDeliver}
 
@@ -24,6 +26,18 @@ abbrev pub unless_held : Joint → Joint → Joint
 unless_held Held next = Held
 unless_held Joined next = next
 unless_held (Open cause) next = next
+
+-- where it is confirmed that the item's monitoring is on again, Held becomes open; any other joint stays
+abbrev pub confirmed : Joint → Joint
+confirmed Held = Open Warm
+confirmed Joined = Joined
+confirmed (Open cause) = Open cause
+
+-- the joint after what befalls it
+abbrev pub turned : Turn → Joint → Joint
+turned (Become next) joint = next
+turned (Loosen cause) joint = unless_held joint (Open cause)
+turned Confirm joint = confirmed joint
 
 -- the joint after an entry, by its stamp: without a source time, something may be missing
 abbrev pub joint_after : Option Stamp → Joint → Joint

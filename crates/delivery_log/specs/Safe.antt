@@ -17,7 +17,8 @@ pub data Part : Type 0 where
 
 -- what a line of the log is to an item
 abbrev pub part_of : ℕ → LogLine → Part
-part_of item (line.Delivered i time pico value status) = if i == item then DataLine (record { time = time; pico = pico }) value else OtherLine
+part_of item (line.Delivered i time pico value status) =
+    if i == item then DataLine (record { time = time; pico = pico }) value else OtherLine
 part_of item (line.Gap i cause) = if i == item then GapLine else OtherLine
 part_of item (line.Switch from to) = OtherLine
 part_of item (line.Ready server) = OtherLine
@@ -45,10 +46,11 @@ MaySkip next place gap = (next ≡ 0) ⊎ ((next ≡ place) ⊎ (gap ≡ true))
 
 -- a data line of this stamp and value may come next: it shows the change at a place that was not passed, and skips none
 -- without a gap line
-pub record MayShow (changes : List Change) (next : ℕ) (gap : Bool) (place : ℕ) (stamp : Stamp) (value : Seen) : Type 0 where
-  pub shows : IsChangeAt changes place stamp value
-  pub forward : next ≤ place
-  pub skip : MaySkip next place gap
+pub record MayShow (changes : List Change) (next : ℕ) (gap : Bool) (place : ℕ) (stamp : Stamp) (value : Seen) : Type 0
+  where
+    pub shows : IsChangeAt changes place stamp value
+    pub forward : next ≤ place
+    pub skip : MaySkip next place gap
 
 -- An item's data lines are changes of the source in their order, no place twice; where places are skipped between two
 -- of them, a gap line of the item stands directly before the later one. `next` is as above; `gap` says that a gap line

@@ -1,17 +1,19 @@
-ghost use Rattle.std.specs.Prelude.{◌≡◌, ◌<◌, ◌++◌, [], ◌∷◌, length, replicate, slice_index_or, slice_set, OnOk, OnErr, IfOk};
+ghost use Rattle.std.specs.Prelude.{◌≡◌, ◌<◌, ◌≤◌, ◌++◌, [], ◌∷◌, length, map, replicate, slice_index_or, slice_set, OnOk, OnErr, IfOk};
 ghost use Rattle.set_model.specs.declared.line.GapCause.TheVariants.{Late};
 ghost use Rattle.delivery_log.specs.declared.rule.Joint.TheVariants.{Open};
-ghost use Rattle.delivery_log.specs.Log.{Covers, data_line, entered, joint_at, late_joints, lines_by, new_log, noted, with_joint};
+ghost use Rattle.delivery_log.specs.Judge.{turned};
+ghost use Rattle.delivery_log.specs.Log.{Covers, CoversServer, begun, data_line, entered, joint_at, last_kept, late_joints, lines_by, new_log, noted, with_all_turned, with_joint, with_turned};
+ghost use Rattle.delivery_log.specs.Rows.{HaveWidth};
 
-use crate::rule::{Joint, Verdict, has_overflow, judge, later};
+use crate::rule::{Joint, Turn, Verdict, has_overflow, judge, later, turned};
 use set_model::{Arrived, GapCause, LogLine, Stamp};
 use std::alloc::Global;
 use std::marker::Model;
 use ua_base::OutOfMemory;
 
-/// The joints of one server, one for each item.
+/// The joints of one server, one for each item, item 1 first.
 #[derive(Debug, Drop)]
-struct Joints {
+pub struct Joints {
     joints: Vec<Joint>,
 }
 
@@ -25,7 +27,14 @@ impl Model for Joints {
 }
 
 impl Joints {
-    fn new(alloc: Global, items: u8) -> Result<Joints, OutOfMemory>
+    /// These joints. It takes no memory.
+    pub fn of(joints: Vec<Joint>) -> Joints
+        ensures { result ≡ joints.items }
+    {
+        Joints { joints }
+    }
+
+    fn late(alloc: Global, items: u8) -> Result<Joints, OutOfMemory>
         ensures { IfOk result (λ j. j ≡ replicate items (Open Late)) }
     {
         let joints = vec![in alloc; Joint::Open(GapCause::Late); usize::from(items)]?;
@@ -47,6 +56,14 @@ impl Joints {
     {
         self.joints[place] = joint;
     }
+
+    fn turn(&mut self, turn: Turn)
+        ensures { self.new ≡ map (turned turn) self.old }
+    {
+        for joint in self.joints.iter_mut() {
+            *joint = turned(turn, *joint);
+        }
+    }
 }
 
 /// The joints of all servers before anything came.
@@ -55,7 +72,7 @@ fn late_joints(alloc: Global, servers: u8, items: u8) -> Result<Vec<Joints>, Out
 {
     let mut joints = Vec::new(alloc);
     for _server in 0..servers {
-        joints.push(Joints::new(alloc, items)?)?;
+        joints.push(Joints::late(alloc, items)?)?;
     }
     Ok(joints)
 }
@@ -148,11 +165,39 @@ impl Log {
         })
     }
 
+    /// A log that goes on from another one: it begins with these stamps last delivered, one for each item, and with
+    /// these joints, those of server 1 first. It has no lines yet, and takes no memory.
+    pub fn begun(alloc: Global, lasts: Vec<Option<Stamp>>, joints: Vec<Joints>) -> Log
+        requires { HaveWidth (length lasts.items) joints.items }
+        ensures { result ≡ begun lasts.items joints.items }
+    {
+        Log {
+            lasts,
+            joints,
+            lines: Vec::new(alloc),
+        }
+    }
+
     /// How many items it is of.
     pub fn items(&self) -> usize
         ensures { result ≡ length self.now.lasts }
     {
         self.lasts.len()
+    }
+
+    /// How many servers it is of.
+    pub fn servers(&self) -> usize
+        ensures { result ≡ length self.now.joints }
+    {
+        self.joints.len()
+    }
+
+    /// The stamp of an item's last data line, `None` where it has none. Items are numbered from 1.
+    pub fn last(&self, item: u8) -> Option<Stamp>
+        requires { (1 ≤ item) × (item ≤ length self.now.lasts) }
+        ensures { result ≡ last_kept item self.now }
+    {
+        self.lasts[usize::from(item - 1)]
     }
 
     /// The joint of a server and item, both numbered from 1.
@@ -169,6 +214,22 @@ impl Log {
         ensures { self.new ≡ with_joint server item joint self.old }
     {
         self.joints[usize::from(server - 1)].set(usize::from(item - 1), joint);
+    }
+
+    /// What befalls the joint of a server and item, both numbered from 1. It takes no memory.
+    pub fn turn(&mut self, server: u8, item: u8, turn: Turn)
+        requires { Covers server item self.old }
+        ensures { self.new ≡ with_turned server item turn self.old }
+    {
+        self.set_joint(server, item, turned(turn, self.joint(server, item)));
+    }
+
+    /// What befalls all joints of a server, numbered from 1: one for each item. It takes no memory.
+    pub fn turn_all(&mut self, server: u8, turn: Turn)
+        requires { CoversServer server self.old }
+        ensures { self.new ≡ with_all_turned server turn self.old }
+    {
+        self.joints[usize::from(server - 1)].turn(turn);
     }
 
     /// Enters an entry of a server and item, both numbered from 1, by the rule of `judge`.

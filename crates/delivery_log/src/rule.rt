@@ -1,5 +1,5 @@
 ghost use Rattle.std.specs.Prelude.{◌≡◌};
-ghost use Rattle.delivery_log.specs.Judge.{has_overflow, joint_after, judge, later, unless_held, verdict_after, verdict_of};
+ghost use Rattle.delivery_log.specs.Judge.{confirmed, has_overflow, joint_after, judge, later, turned, unless_held, verdict_after, verdict_of};
 
 use set_model::{GapCause, Stamp};
 use ua_base::status::{OVERFLOW_BITS, OVERFLOW_MASK};
@@ -14,6 +14,18 @@ pub enum Joint {
     /// The item's monitoring is off at the server, or not yet confirmed to be on again: entries that come
     /// meanwhile do not join.
     Held,
+}
+
+/// What befalls a joint, other than an entry.
+#[derive(Clone, Copy, Debug, PartialEq, Eq)]
+pub enum Turn {
+    /// It becomes this one, whatever it was.
+    Become(Joint),
+    /// Something may be missing before the next entry, for this cause: it becomes `Open`, unless it is `Held`.
+    Loosen(GapCause),
+    /// The item's monitoring is confirmed to be on again: `Held` becomes `Open` with the cause `Warm`, and any other
+    /// joint stays.
+    Confirm,
 }
 
 /// What the log gains by an entry.
@@ -52,6 +64,26 @@ fn unless_held(joint: Joint, next: Joint) -> Joint
     match joint {
         Joint::Held => Joint::Held,
         Joint::Joined | Joint::Open(_) => next,
+    }
+}
+
+fn confirmed(joint: Joint) -> Joint
+    ensures { result ≡ confirmed joint }
+{
+    match joint {
+        Joint::Held => Joint::Open(GapCause::Warm),
+        Joint::Joined | Joint::Open(_) => joint,
+    }
+}
+
+/// The joint after what befalls it.
+pub(crate) fn turned(turn: Turn, joint: Joint) -> Joint
+    ensures { result ≡ turned turn joint }
+{
+    match turn {
+        Turn::Become(next) => next,
+        Turn::Loosen(cause) => unless_held(joint, Joint::Open(cause)),
+        Turn::Confirm => confirmed(joint),
     }
 }
 
