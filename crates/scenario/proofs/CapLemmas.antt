@@ -9,9 +9,8 @@ use Rattle.scenario.specs.declared.form.Form.TheVariants as form
 use Rattle.scenario.specs.declared.line.Line.{Line}
 use Rattle.scenario.specs.declared.fault.FaultKind.{FaultKind}
 use Rattle.scenario.specs.declared.fault.FaultKind.TheVariants as kind
-use Rattle.scenario.specs.declared.reader.TheConstants.{MOST_LINES}
-use Rattle.scenario.specs.Words.{◌>>=◌, words_of, number_of, number_by, read_by, integer_by, below_zero, capped}
-use Rattle.scenario.specs.Grammar.{word_at, last_at, number_at, integer_at, mode_at, one_number, two_numbers, queue_at, set_form, items_form, change_form, form_after, form_of, form_read}
+use Rattle.scenario.specs.Words.{◌>>=◌, words_of, dotted, number_of, number_by, read_by, pico_by, stamp_by, integer_by, below_zero, capped}
+use Rattle.scenario.specs.Grammar.{word_at, last_at, number_at, stamp_at, integer_at, mode_at, one_number, rule_at, two_numbers, name_at, set_form, items_form, change_form, form_after, form_of, form_read}
 use Rattle.scenario.specs.Past.{servers_in, items_in}
 use Rattle.scenario.specs.Faults.{misses_set, is_in_place, is_within, fits_value, is_in_range, is_built, has_server, has_item, has_its_server, has_its_item, needs_running, starts_running, starts_too_often, source_fault, listener_fault, or_fault, set_fault, content_fault, any_form_fault, verdict, content_verdict, judged}
 
@@ -48,8 +47,8 @@ capped_integer (negsuc n) = negsuc (min n (2 ^ 64 - 2))
 
 abbrev pub capped_form : Form → Form
 capped_form (form.Set mode servers) = form.Set mode (capped servers)
-capped_form (form.Items items queue) = form.Items (capped items) (capped queue)
-capped_form (form.Change item time value) = form.Change (capped item) (capped time) (capped_integer value)
+capped_form (form.Items items queue oldest) = form.Items (capped items) (capped queue) oldest
+capped_form (form.Change item time pico value) = form.Change (capped item) (capped time) (mapped capped pico) (capped_integer value)
 capped_form (form.Feed server count) = form.Feed (capped server) (capped count)
 capped_form (form.Take server count) = form.Take (capped server) (capped count)
 capped_form (form.Stop server) = form.Stop (capped server)
@@ -60,6 +59,12 @@ capped_form form.End = form.End
 
 abbrev capped_first : ℕ × List (List ℕ) → ℕ × List (List ℕ)
 capped_first x = (capped x.0, x.1)
+
+abbrev capped_stamp : ℕ × Option ℕ → ℕ × Option ℕ
+capped_stamp x = (capped x.0, mapped capped x.1)
+
+abbrev capped_stamp_first : (ℕ × Option ℕ) × List (List ℕ) → (ℕ × Option ℕ) × List (List ℕ)
+capped_stamp_first x = (capped_stamp x.0, x.1)
 
 abbrev capped_value : ℤ × List (List ℕ) → ℤ × List (List ℕ)
 capped_value x = (capped_integer x.0, x.1)
@@ -72,6 +77,18 @@ number_by-capped word = read_capped (number_of word) where
   read_capped : (o : Option ℕ) → read_by capped o ≡ mapped capped (read_by plain o)
   read_capped None = refl
   read_capped (Some n) = refl
+
+pico_by-capped : (digits : Option (List ℕ)) → pico_by capped digits ≡ mapped (mapped capped) (pico_by plain digits)
+pico_by-capped None = refl
+pico_by-capped (Some digits) =
+    step capped (number_by capped digits) (number_by plain digits) (number_by-capped digits) (λ n. Some (Some n)) (λ n. Some (Some n)) (mapped capped) (λ n. refl)
+
+stamp_by-capped : (word : List ℕ) → stamp_by capped word ≡ mapped capped_stamp (stamp_by plain word)
+stamp_by-capped word =
+    step capped (number_by capped (dotted word).0) (number_by plain (dotted word).0) (number_by-capped (dotted word).0)
+    (λ time. pico_by capped (dotted word).1 >>= λ pico. Some (time, pico)) (λ time. pico_by plain (dotted word).1 >>= λ pico. Some (time, pico)) capped_stamp
+    (λ time. step (mapped capped) (pico_by capped (dotted word).1) (pico_by plain (dotted word).1) (pico_by-capped (dotted word).1)
+    (λ pico. Some (capped time, pico)) (λ pico. Some (time, pico)) capped_stamp (λ pico. refl))
 
 below_capped : (n : ℕ) → below_zero (capped n) ≡ mapped capped_integer (below_zero n)
 below_capped zero = refl
@@ -88,6 +105,10 @@ integer_by-capped (first ∷ rest) =
 number_at-capped : (words : List (List ℕ)) → number_at capped words ≡ mapped capped_first (number_at plain words)
 number_at-capped words = along (word_at words) _ _ capped_first
     (λ x. step capped (number_by capped x.0) (number_by plain x.0) (number_by-capped x.0) (λ n. Some (n, x.1)) (λ n. Some (n, x.1)) capped_first (λ n. refl))
+
+stamp_at-capped : (words : List (List ℕ)) → stamp_at capped words ≡ mapped capped_stamp_first (stamp_at plain words)
+stamp_at-capped words = along (word_at words) _ _ capped_stamp_first
+    (λ x. step capped_stamp (stamp_by capped x.0) (stamp_by plain x.0) (stamp_by-capped x.0) (λ s. Some (s, x.1)) (λ s. Some (s, x.1)) capped_stamp_first (λ s. refl))
 
 integer_at-capped : (words : List (List ℕ)) → integer_at capped words ≡ mapped capped_value (integer_at plain words)
 integer_at-capped words = along (word_at words) _ _ capped_value
@@ -110,15 +131,17 @@ set_form-capped words = along (mode_at words)
 
 items_form-capped : (words : List (List ℕ)) → items_form capped words ≡ mapped capped_form (items_form plain words)
 items_form-capped words = step capped_first (number_at capped words) (number_at plain words) (number_at-capped words)
-    (λ x. queue_at x.1 >>= λ rest. one_number capped rest >>= λ q. Some (form.Items x.0 q)) (λ x. queue_at x.1 >>= λ rest. one_number plain rest >>= λ q. Some (form.Items x.0 q)) capped_form
-    (λ x. along (queue_at x.1) (λ rest. one_number capped rest >>= λ q. Some (form.Items (capped x.0) q)) (λ rest. one_number plain rest >>= λ q. Some (form.Items x.0 q)) capped_form
-    (λ rest. step capped (one_number capped rest) (one_number plain rest) (one_number-capped rest) (λ q. Some (form.Items (capped x.0) q)) (λ q. Some (form.Items x.0 q)) capped_form (λ q. refl)))
+    _ _ capped_form
+    (λ x. along (name_at (codes "queue") x.1) _ _ capped_form
+    (λ rest. step capped_first (number_at capped rest) (number_at plain rest) (number_at-capped rest) _ _ capped_form
+    (λ q. along (rule_at q.1) (λ oldest. Some (form.Items (capped x.0) (capped q.0) oldest)) (λ oldest. Some (form.Items x.0 q.0 oldest)) capped_form (λ oldest. refl))))
 
 change_form-capped : (words : List (List ℕ)) → change_form capped words ≡ mapped capped_form (change_form plain words)
 change_form-capped words = step capped_first (number_at capped words) (number_at plain words) (number_at-capped words) _ _ capped_form
-    (λ i. step capped_first (number_at capped i.1) (number_at plain i.1) (number_at-capped i.1) _ _ capped_form
+    (λ i. step capped_stamp_first (stamp_at capped i.1) (stamp_at plain i.1) (stamp_at-capped i.1) _ _ capped_form
     (λ t. step capped_value (integer_at capped t.1) (integer_at plain t.1) (integer_at-capped t.1) _ _ capped_form
-    (λ v. along (last_at v.1) (λ _. Some (form.Change (capped i.0) (capped t.0) (capped_integer v.0))) (λ _. Some (form.Change i.0 t.0 v.0)) capped_form (λ _. refl))))
+    (λ v. along (last_at v.1) (λ _. Some (form.Change (capped i.0) (capped t.0.0) (mapped capped t.0.1) (capped_integer v.0)))
+    (λ _. Some (form.Change i.0 t.0.0 t.0.1 v.0)) capped_form (λ _. refl))))
 
 two : (words : List (List ℕ)) (f : ℕ → ℕ → Form) → ((m n : ℕ) → f (capped m) (capped n) ≡ capped_form (f m n))
     → (two_numbers capped words >>= λ n. Some (f n.0 n.1)) ≡ mapped capped_form (two_numbers plain words >>= λ n. Some (f n.0 n.1))
@@ -239,24 +262,31 @@ item_hole pool before F n h b s i r =
       | inr e ↦ ap (λ m. content_verdict pool before (F m)) e
     ]
 
-value_hole : (pool : ℕ) (before : List Line) (item time : ℕ) (v : ℤ)
-    → content_verdict pool before (form.Change item time (capped_integer v)) ≡ content_verdict pool before (form.Change item time v)
-value_hole pool before item time v =
+pico_hole : (pool : ℕ) (before : List Line) (item time : ℕ) (pico : Option ℕ) (v : ℤ)
+    → content_verdict pool before (form.Change item time (mapped capped pico) v) ≡ content_verdict pool before (form.Change item time pico v)
+pico_hole pool before item time None v = refl
+pico_hole pool before item time (Some pico) v =
+    range_hole pool before (λ n. form.Change item time (Some n) v) 0 9999 pico (omega arith) (λ m h. and_left _ _ (and_right _ _ h))
+
+value_hole : (pool : ℕ) (before : List Line) (item time : ℕ) (pico : Option ℕ) (v : ℤ)
+    → content_verdict pool before (form.Change item time pico (capped_integer v)) ≡ content_verdict pool before (form.Change item time pico v)
+value_hole pool before item time pico v =
     elim (same_value v) [
-      | inl both ↦ out pool before (form.Change item time (capped_integer v)) (and_right _ _ both.0) ∙ sym (out pool before (form.Change item time v) (and_right _ _ both.1))
-      | inr e ↦ ap (λ z. content_verdict pool before (form.Change item time z)) e
+      | inl both ↦ out pool before (form.Change item time pico (capped_integer v)) (and_right _ _ both.0) ∙ sym (out pool before (form.Change item time pico v) (and_right _ _ both.1))
+      | inr e ↦ ap (λ z. content_verdict pool before (form.Change item time pico z)) e
     ]
 
 content_capped : (pool : ℕ) (before : List Line) (f : Form) → servers_in before < 2 ^ 64 - 1 → items_in before < 2 ^ 64 - 1
     → content_verdict pool before (capped_form f) ≡ content_verdict pool before f
 content_capped pool before (form.Set mode servers) s i = range_hole pool before (λ n. form.Set mode n) 1 8 servers (omega arith) (λ m h. h)
-content_capped pool before (form.Items items queue) s i =
-    range_hole pool before (λ n. form.Items n (capped queue)) 1 64 items (omega arith) (λ m h. and_left _ _ h)
-    ∙ range_hole pool before (λ n. form.Items items n) 2 1000 queue (omega arith) (λ m h. and_right _ _ h)
-content_capped pool before (form.Change item time value) s i =
-    item_hole pool before (λ n. form.Change n (capped time) (capped_integer value)) item i (λ _. refl) (λ _. refl) (λ _. refl) (λ _ _. refl)
-    ∙ range_hole pool before (λ n. form.Change item n (capped_integer value)) 1 (10 ^ 18) time (omega arith) (λ m h. and_left _ _ h)
-    ∙ value_hole pool before item time value
+content_capped pool before (form.Items items queue oldest) s i =
+    range_hole pool before (λ n. form.Items n (capped queue) oldest) 1 64 items (omega arith) (λ m h. and_left _ _ h)
+    ∙ range_hole pool before (λ n. form.Items items n oldest) 2 1000 queue (omega arith) (λ m h. and_right _ _ h)
+content_capped pool before (form.Change item time pico value) s i =
+    item_hole pool before (λ n. form.Change n (capped time) (mapped capped pico) (capped_integer value)) item i (λ _. refl) (λ _. refl) (λ _. refl) (λ _ _. refl)
+    ∙ range_hole pool before (λ n. form.Change item n (mapped capped pico) (capped_integer value)) 1 (10 ^ 18) time (omega arith) (λ m h. and_left _ _ (and_left _ _ h))
+    ∙ pico_hole pool before item time pico (capped_integer value)
+    ∙ value_hole pool before item time pico value
 content_capped pool before (form.Feed server count) s i =
     server_hole pool before (λ n. form.Feed n (capped count)) server s (λ _. refl) (λ _. refl) (λ _ _. refl)
     ∙ range_hole pool before (λ n. form.Feed server n) 1 200000 count (omega arith) (λ m h. h)
@@ -271,8 +301,8 @@ content_capped pool before form.End s i = refl
 
 place_capped : (before : List Line) (f : Form) → is_in_place before (capped_form f) ≡ is_in_place before f
 place_capped before (form.Set mode servers) = refl
-place_capped before (form.Items items queue) = refl
-place_capped before (form.Change item time value) = refl
+place_capped before (form.Items items queue oldest) = refl
+place_capped before (form.Change item time pico value) = refl
 place_capped before (form.Feed server count) = refl
 place_capped before (form.Take server count) = refl
 place_capped before (form.Stop server) = refl
@@ -293,18 +323,18 @@ verdict_capped pool before (Some f) s i =
     ap (λ b. verdict (cond (not b) (Some kind.BadLine) (content_fault pool before (capped_form f))) (Some (capped_form f))) (place_capped before f)
     ∙ placed (is_in_place before f) (content_fault pool before (capped_form f)) (content_fault pool before f) (capped_form f) f (content_capped pool before f s i)
 
-placed_late : (m t : Bool) (c : Option FaultKind) (o : Option Form) → m ≡ false → t ≡ false
+pub placed_late : (m t : Bool) (c : Option FaultKind) (o : Option Form) → m ≡ false → t ≡ false
     → verdict c o ≡ verdict (cond m (Some kind.MissingSet) (cond t (Some kind.TooLong) c)) o
 placed_late true t c o m l = absurd cc
 placed_late false true c o m l = absurd cc
 placed_late false false c o m l = refl
 
 -- the verdict on the form that is read, where the line is neither out of place nor one too many
-pub judged_read : (pool : ℕ) (before : List Line) (text : List ℕ) (o : Option Form) → misses_set (length before) (words_of text) ≡ false → length before < MOST_LINES
+pub judged_read : (pool : ℕ) (before : List Line) (text : List ℕ) (o : Option Form) → misses_set (length before) (words_of text) ≡ false → length before < 1000000
     → servers_in before < 2 ^ 64 - 1 → items_in before < 2 ^ 64 - 1 → o ≡ form_read text
     → verdict (any_form_fault pool before o) o ≡ judged pool before text
 judged_read pool before text o m t s i e =
-    let late : nat_le MOST_LINES (length before) ≡ false = grind (arith, nat_tests) in
+    let late : nat_le 1000000 (length before) ≡ false = grind (arith, nat_tests) in
     ap (λ p. verdict (any_form_fault pool before p) p) (e ∙ form_read-capped text)
     ∙ verdict_capped pool before (form_of text) s i
-    ∙ placed_late (misses_set (length before) (words_of text)) (nat_le MOST_LINES (length before)) (any_form_fault pool before (form_of text)) (form_of text) m late
+    ∙ placed_late (misses_set (length before) (words_of text)) (nat_le 1000000 (length before)) (any_form_fault pool before (form_of text)) (form_of text) m late

@@ -5,14 +5,12 @@ use Rattle.std.proofs.lemmas.Bool.Decides.{nat_tests}
 use Rattle.std.proofs.lemmas.Bool.{and_parts}
 use Rattle.set_model.specs.declared.source.SourceFault.{SourceFault}
 use Rattle.set_model.specs.declared.source.SourceFault.TheVariants.{Full}
-use Rattle.set_model.specs.declared.source.TheConstants.{MOST_CHANGES}
 use Rattle.set_model.specs.Source.{last_of, refusal_after}
 use Rattle.scenario.specs.declared.form.Form.{Form}
 use Rattle.scenario.specs.declared.form.Form.TheVariants as form
 use Rattle.scenario.specs.declared.line.Line.{Line}
 use Rattle.scenario.specs.declared.fault.FaultKind.{FaultKind}
 use Rattle.scenario.specs.declared.fault.FaultKind.TheVariants as kind
-use Rattle.scenario.specs.declared.reader.TheConstants.{MOST_LINES}
 use Rattle.scenario.specs.Words.{words_of}
 use Rattle.scenario.specs.Grammar.{form_of}
 use Rattle.scenario.specs.Past.{servers_in, changes_in, boot_of, has_ended, listens_in, attached_in}
@@ -91,18 +89,19 @@ pub record Taken (pool : ℕ) (before : List Line) (text : List ℕ) (l : Line) 
   pub f : Form
   pub is : form_of text ≡ Some f
   pub line_is : line_of f ≡ l
-  pub few : length before < MOST_LINES
+  pub few : length before < 1000000
+  pub sound : form_fault pool before f ≡ None
   pub passes : Passes pool before f
 
 pub taken : (pool : ℕ) (before : List Line) (text : List ℕ) (l : Line) → judged pool before text ≡ Ok l → Taken pool before text l
 taken pool before text l h =
     let v = verdict_ok (fault_of pool before text) (form_of text) l h in
     let a = passed (misses_set (length before) (words_of text)) kind.MissingSet
-    (cond (nat_le MOST_LINES (length before)) (Some kind.TooLong) (any_form_fault pool before (form_of text))) v.0 in
-    let b = passed (nat_le MOST_LINES (length before)) kind.TooLong (any_form_fault pool before (form_of text)) a.1 in
-    let few : nat_le MOST_LINES (length before) ≡ false = b.0 in
+    (cond (nat_le 1000000 (length before)) (Some kind.TooLong) (any_form_fault pool before (form_of text))) v.0 in
+    let b = passed (nat_le 1000000 (length before)) kind.TooLong (any_form_fault pool before (form_of text)) a.1 in
+    let few : nat_le 1000000 (length before) ≡ false = b.0 in
     let none : form_fault pool before v.1 ≡ None = sym (ap (any_form_fault pool before) v.2) ∙ b.1 in
-    record { f = v.1; is = v.2; line_is = v.3; few = grind (arith, nat_tests); passes = passes pool before v.1 none }
+    record { f = v.1; is = v.2; line_is = v.3; few = grind (arith, nat_tests); sound = none; passes = passes pool before v.1 none }
 
 pub set_place : (n : ℕ) (e : Bool) → cond (n == 0) true (cond (n == 1) false (not (true || false || e))) ≡ true → n ≡ 0
 set_place n e h = grind (arith, nat_tests)
@@ -120,16 +119,16 @@ no_listener : (pool n m : ℕ) → cond (nat_le pool n || nat_le 16 m || nat_le 
 no_listener pool n m h = grind (arith, nat_tests)
 
 -- a source that is full refuses each change
-not_full : (full : Bool) (n : ℕ) (r : Option SourceFault) → nat_le MOST_CHANGES n ≡ full → kind_of_refusal (cond full (Some Full) r) ≡ None → n < MOST_CHANGES
+not_full : (full : Bool) (n : ℕ) (r : Option SourceFault) → nat_le 200000 n ≡ full → kind_of_refusal (cond full (Some Full) r) ≡ None → n < 200000
 not_full true n r is h = absurd cc
 not_full false n r is h = grind (arith, nat_tests)
 
 may : (pool : ℕ) (before : List Line) (f : Form) → Passes pool before f → MayFollow before (line_of f)
 may pool before (form.Set mode servers) h = (set_place _ (has_ended before) h.place, (within_range 1 8 servers h.range).1)
-may pool before (form.Items items queue) h =
+may pool before (form.Items items queue oldest) h =
     (items_place _ (has_ended before) h.place, (within_range 1 64 items (and_parts (is_within 1 64 items) (is_within 2 1000 queue) h.range).0).1)
-may pool before (form.Change item time value) h =
-    not_full _ (length (changes_in before)) (refusal_after (last_of item (changes_in before)) (the_change item time value)) refl h.source
+may pool before (form.Change item time pico value) h =
+    not_full _ (length (changes_in before)) (refusal_after (last_of item (changes_in before)) (the_change item time pico value)) refl h.source
 may pool before (form.Feed server count) h = tt
 may pool before (form.Take server count) h = tt
 may pool before (form.Stop server) h = within_range 1 (servers_in before) server h.server

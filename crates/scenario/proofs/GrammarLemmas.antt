@@ -1,6 +1,6 @@
 -- A text has a form exactly where it is the form's spelling.
-use Rattle.std.proofs.Common.{◌≡◌, ◌==◌, ℕ, ◌≤◌, ◌⊎◌, inl, inr, suc, ℤ, pos, negsuc, List, [], ◌∷◌, ◌++◌, Bool, true, false, cond, Option, Some, None, refl, sym, ◌∙◌, ap, arith, rules}
-use Rattle.std.specs.Prelude.{codes}
+use Rattle.std.proofs.Common.{◌≡◌, ◌==◌, ℕ, ◌≤◌, ◌⊎◌, inl, inr, suc, ℤ, pos, negsuc, List, [], ◌∷◌, ◌++◌, Bool, true, false, cond, Option, Some, None, refl, sym, ◌∙◌, ap, subst, arith, rules}
+use Rattle.std.specs.Prelude.{codes, nat_le}
 use Rattle.std.specs.Str.{bytes_eq}
 use Rattle.std.proofs.lemmas.Bool.Decides.{nat_tests}
 use Rattle.std.proofs.lemmas.Slice.Eq.{bytes_eq-Decides}
@@ -10,9 +10,9 @@ use Rattle.ua_base.specs.declared.modes.SetMode.TheVariants.{Direct, Hot, Warm, 
 use Rattle.scenario.specs.declared.form.Form.{Form}
 use Rattle.scenario.specs.declared.form.Form.TheVariants as form
 use Rattle.scenario.specs.Texts.{mode_text}
-use Rattle.scenario.specs.Words.{◌>>=◌, with_first, words_of, spaced, spaced_after, numeral, signed_numeral, number_by, integer_by}
-use Rattle.scenario.specs.Grammar.{form_words, form_text, word_at, last_at, number_at, integer_at, mode_of, mode_at, one_number, two_numbers, queue_at, set_form, items_form, change_form, form_after, form_by, form_of}
-use Rattle.scenario.proofs.WordLemmas.{words_some}
+use Rattle.scenario.specs.Words.{◌>>=◌, with_first, words_of, spaced, spaced_after, dotted, numeral, stamp_numeral, signed_numeral, number_by, pico_by, stamp_by, integer_by}
+use Rattle.scenario.specs.Grammar.{form_words, form_text, word_at, last_at, name_at, number_at, stamp_at, integer_at, mode_of, mode_at, one_number, rule_at, rule_words, two_numbers, set_form, items_form, change_form, form_after, form_by, form_of}
+use Rattle.scenario.proofs.WordLemmas.{dot_step, words_some}
 use Rattle.scenario.proofs.NumeralLemmas.{plain, AreDigits, numeral_digits, number_by-numeral, numeral-number_by, integer_by-numeral, numeral-integer_by}
 
 -- words joined again
@@ -35,52 +35,70 @@ pub spaced-words_of : (text : List ℕ) → spaced (words_of text) ≡ text
 spaced-words_of [] = refl
 spaced-words_of (b ∷ rest) = spaced_case b rest (b == 32) refl (spaced-words_of rest)
 
--- no space stands in a word
-abbrev pub NoSpace : List ℕ → Type 0
-NoSpace [] = Unit {0}
-NoSpace (b ∷ rest) = ((b == 32) ≡ false) × NoSpace rest
+-- no byte of a word is below 45: no space and no line feed stands in it
+abbrev pub Solid : List ℕ → Type 0
+Solid [] = Unit {0}
+Solid (b ∷ rest) = (nat_le 45 b ≡ true) × Solid rest
 
-abbrev pub NoSpaces : List (List ℕ) → Type 0
-NoSpaces [] = Unit {0}
-NoSpaces (w ∷ ws) = NoSpace w × NoSpaces ws
+abbrev pub AllSolid : List (List ℕ) → Type 0
+AllSolid [] = Unit {0}
+AllSolid (w ∷ ws) = Solid w × AllSolid ws
+
+no_space : (b : ℕ) → nat_le 45 b ≡ true → (b == 32) ≡ false
+no_space b h = grind (arith, nat_tests)
+
+no_feed : (b : ℕ) → nat_le 45 b ≡ true → (b == 10) ≡ false
+no_feed b h = grind (arith, nat_tests)
 
 byte_kept : (b : ℕ) (rest : List ℕ) (w : List ℕ) (ws : List (List ℕ)) → (b == 32) ≡ false → words_of rest ≡ w ∷ ws → words_of (b ∷ rest) ≡ (b ∷ w) ∷ ws
 byte_kept b rest w ws e h = ap (λ s. cond s ([] ∷ words_of rest) (with_first b (words_of rest))) e ∙ ap (with_first b) h
 
-word_alone : (w : List ℕ) → NoSpace w → words_of w ≡ w ∷ []
+word_alone : (w : List ℕ) → Solid w → words_of w ≡ w ∷ []
 word_alone [] h = refl
-word_alone (b ∷ rest) h = byte_kept b rest rest [] h.0 (word_alone rest h.1)
+word_alone (b ∷ rest) h = byte_kept b rest rest [] (no_space b h.0) (word_alone rest h.1)
 
-word_before : (w t : List ℕ) → NoSpace w → words_of (w ++ 32 ∷ t) ≡ w ∷ words_of t
+word_before : (w t : List ℕ) → Solid w → words_of (w ++ 32 ∷ t) ≡ w ∷ words_of t
 word_before [] t h = refl
-word_before (b ∷ rest) t h = byte_kept b (rest ++ 32 ∷ t) rest (words_of t) h.0 (word_before rest t h.1)
+word_before (b ∷ rest) t h = byte_kept b (rest ++ 32 ∷ t) rest (words_of t) (no_space b h.0) (word_before rest t h.1)
 
-pub words_of-spaced : (w : List ℕ) (ws : List (List ℕ)) → NoSpaces (w ∷ ws) → words_of (spaced (w ∷ ws)) ≡ w ∷ ws
+pub words_of-spaced : (w : List ℕ) (ws : List (List ℕ)) → AllSolid (w ∷ ws) → words_of (spaced (w ∷ ws)) ≡ w ∷ ws
 words_of-spaced w [] h = ap words_of (append-nil w) ∙ word_alone w h.0
 words_of-spaced w (v ∷ vs) h = word_before w (spaced (v ∷ vs)) h.0 ∙ ap (λ more. w ∷ more) (words_of-spaced v vs h.1)
 
-digits_no_space : (w : List ℕ) → AreDigits w → NoSpace w
-digits_no_space [] h = tt
-digits_no_space (c ∷ cs) h = (let low : 48 ≤ c = h.0 in grind (arith, nat_tests), digits_no_space cs h.2)
+digits_solid : (w : List ℕ) → AreDigits w → Solid w
+digits_solid [] h = tt
+digits_solid (c ∷ cs) h = (let low : 48 ≤ c = h.0 in grind (arith, nat_tests), digits_solid cs h.2)
 
-numeral_no_space : (n : ℕ) → NoSpace (numeral n)
-numeral_no_space n = digits_no_space (numeral n) (numeral_digits n)
+numeral_solid : (n : ℕ) → Solid (numeral n)
+numeral_solid n = digits_solid (numeral n) (numeral_digits n)
 
-signed_no_space : (z : ℤ) → NoSpace (signed_numeral z)
-signed_no_space (pos n) = numeral_no_space n
-signed_no_space (negsuc n) = (refl, numeral_no_space (suc n))
+signed_solid : (z : ℤ) → Solid (signed_numeral z)
+signed_solid (pos n) = numeral_solid n
+signed_solid (negsuc n) = (refl, numeral_solid (suc n))
 
-mode_no_space : (m : SetMode) → NoSpace (mode_text m)
-mode_no_space Direct = search rules
-mode_no_space Hot = search rules
-mode_no_space Warm = search rules
-mode_no_space Cold = search rules
+solid_join : (v w : List ℕ) → Solid v → Solid w → Solid (v ++ w)
+solid_join [] w h k = k
+solid_join (b ∷ v) w h k = (h.0, solid_join v w h.1 k)
+
+stamp_solid : (time : ℕ) (pico : Option ℕ) → Solid (stamp_numeral time pico)
+stamp_solid time None = numeral_solid time
+stamp_solid time (Some pico) = solid_join (numeral time) (46 ∷ numeral pico) (numeral_solid time) (refl, numeral_solid pico)
+
+rule_solid : (oldest : Bool) → AllSolid (rule_words oldest)
+rule_solid true = tt
+rule_solid false = (search rules, (search rules, tt))
+
+mode_solid : (m : SetMode) → Solid (mode_text m)
+mode_solid Direct = search rules
+mode_solid Hot = search rules
+mode_solid Warm = search rules
+mode_solid Cold = search rules
 
 -- the words of a form: a keyword, and what follows it
 abbrev pub keyword_of : Form → List ℕ
 keyword_of (form.Set mode servers) = codes "set"
-keyword_of (form.Items items queue) = codes "items"
-keyword_of (form.Change item time value) = codes "change"
+keyword_of (form.Items items queue oldest) = codes "items"
+keyword_of (form.Change item time pico value) = codes "change"
 keyword_of (form.Feed server count) = codes "feed"
 keyword_of (form.Take server count) = codes "take"
 keyword_of (form.Stop server) = codes "stop"
@@ -91,8 +109,8 @@ keyword_of form.End = codes "end"
 
 abbrev pub words_after : Form → List (List ℕ)
 words_after (form.Set mode servers) = mode_text mode ∷ numeral servers ∷ []
-words_after (form.Items items queue) = numeral items ∷ codes "queue" ∷ numeral queue ∷ []
-words_after (form.Change item time value) = numeral item ∷ numeral time ∷ signed_numeral value ∷ []
+words_after (form.Items items queue oldest) = numeral items ∷ codes "queue" ∷ numeral queue ∷ rule_words oldest
+words_after (form.Change item time pico value) = numeral item ∷ stamp_numeral time pico ∷ signed_numeral value ∷ []
 words_after (form.Feed server count) = numeral server ∷ numeral count ∷ []
 words_after (form.Take server count) = numeral server ∷ numeral count ∷ []
 words_after (form.Stop server) = numeral server ∷ []
@@ -103,8 +121,8 @@ words_after form.End = []
 
 words_are : (f : Form) → form_words f ≡ keyword_of f ∷ words_after f
 words_are (form.Set mode servers) = refl
-words_are (form.Items items queue) = refl
-words_are (form.Change item time value) = refl
+words_are (form.Items items queue oldest) = refl
+words_are (form.Change item time pico value) = refl
 words_are (form.Feed server count) = refl
 words_are (form.Take server count) = refl
 words_are (form.Stop server) = refl
@@ -113,21 +131,59 @@ words_are (form.Listen item) = refl
 words_are (form.Unlisten id) = refl
 words_are form.End = refl
 
-no_spaces : (f : Form) → NoSpaces (keyword_of f ∷ words_after f)
-no_spaces (form.Set mode servers) = (search rules, (mode_no_space mode, (numeral_no_space servers, tt)))
-no_spaces (form.Items items queue) = (search rules, (numeral_no_space items, (search rules, (numeral_no_space queue, tt))))
-no_spaces (form.Change item time value) = (search rules, (numeral_no_space item, (numeral_no_space time, (signed_no_space value, tt))))
-no_spaces (form.Feed server count) = (search rules, (numeral_no_space server, (numeral_no_space count, tt)))
-no_spaces (form.Take server count) = (search rules, (numeral_no_space server, (numeral_no_space count, tt)))
-no_spaces (form.Stop server) = (search rules, (numeral_no_space server, tt))
-no_spaces (form.Start server) = (search rules, (numeral_no_space server, tt))
-no_spaces (form.Listen item) = (search rules, (numeral_no_space item, tt))
-no_spaces (form.Unlisten id) = (search rules, (numeral_no_space id, tt))
+no_spaces : (f : Form) → AllSolid (keyword_of f ∷ words_after f)
+no_spaces (form.Set mode servers) = (search rules, (mode_solid mode, (numeral_solid servers, tt)))
+no_spaces (form.Items items queue oldest) = (search rules, (numeral_solid items, (search rules, (numeral_solid queue, rule_solid oldest))))
+no_spaces (form.Change item time pico value) = (search rules, (numeral_solid item, (stamp_solid time pico, (signed_solid value, tt))))
+no_spaces (form.Feed server count) = (search rules, (numeral_solid server, (numeral_solid count, tt)))
+no_spaces (form.Take server count) = (search rules, (numeral_solid server, (numeral_solid count, tt)))
+no_spaces (form.Stop server) = (search rules, (numeral_solid server, tt))
+no_spaces (form.Start server) = (search rules, (numeral_solid server, tt))
+no_spaces (form.Listen item) = (search rules, (numeral_solid item, tt))
+no_spaces (form.Unlisten id) = (search rules, (numeral_solid id, tt))
 no_spaces form.End = (search rules, tt)
 
 -- each piece, as it is spelled, is read
 number_spelled : (n : ℕ) (ws : List (List ℕ)) → number_at plain (numeral n ∷ ws) ≡ Some (n, ws)
 number_spelled n ws = ap (λ o. o >>= λ m. Some (m, ws)) (number_by-numeral n)
+
+-- a time and its picoseconds stand apart at the dot
+dot_kept : (b : ℕ) (rest w : List ℕ) (more : Option (List ℕ)) → (b == 46) ≡ false → dotted rest ≡ (w, more) → dotted (b ∷ rest) ≡ (b ∷ w, more)
+dot_kept b rest w more e h =
+    ap (λ dot. dot_step dot b rest) e ∙ ap (λ d. (b ∷ d.0, d.1)) h
+
+no_dot : (c : ℕ) → 48 ≤ c → (c == 46) ≡ false
+no_dot c low = grind (arith, nat_tests)
+
+dotted_alone : (w : List ℕ) → AreDigits w → dotted w ≡ (w, None)
+dotted_alone [] h = refl
+dotted_alone (c ∷ cs) h = dot_kept c cs cs None (no_dot c h.0) (dotted_alone cs h.2)
+
+dotted_before : (w t : List ℕ) → AreDigits w → dotted (w ++ 46 ∷ t) ≡ (w, Some t)
+dotted_before [] t h = refl
+dotted_before (c ∷ cs) t h = dot_kept c (cs ++ 46 ∷ t) cs (Some t) (no_dot c h.0) (dotted_before cs t h.2)
+
+abbrev stamp_of : List ℕ × Option (List ℕ) → Option (ℕ × Option ℕ)
+stamp_of d = number_by plain d.0 >>= λ time. pico_by plain d.1 >>= λ pico. Some (time, pico)
+
+pico_spelled : (pico : ℕ) → pico_by plain (Some (numeral pico)) ≡ Some (Some pico)
+pico_spelled pico = ap (λ o. o >>= λ p. Some (Some p)) (number_by-numeral pico)
+
+stamp_spelled : (time : ℕ) (pico : Option ℕ) → stamp_by plain (stamp_numeral time pico) ≡ Some (time, pico)
+stamp_spelled time None =
+    ap stamp_of (dotted_alone (numeral time) (numeral_digits time))
+    ∙ ap (λ o. o >>= λ t. pico_by plain None >>= λ p. Some (t, p)) (number_by-numeral time)
+stamp_spelled time (Some pico) =
+    ap stamp_of (dotted_before (numeral time) (numeral pico) (numeral_digits time))
+    ∙ ap (λ o. o >>= λ t. pico_by plain (Some (numeral pico)) >>= λ p. Some (t, p)) (number_by-numeral time)
+    ∙ ap (λ o. o >>= λ p. Some (time, p)) (pico_spelled pico)
+
+stamp_at_spelled : (time : ℕ) (pico : Option ℕ) (ws : List (List ℕ)) → stamp_at plain (stamp_numeral time pico ∷ ws) ≡ Some ((time, pico), ws)
+stamp_at_spelled time pico ws = ap (λ o. o >>= λ s. Some (s, ws)) (stamp_spelled time pico)
+
+rule_spelled : (oldest : Bool) → rule_at (rule_words oldest) ≡ Some oldest
+rule_spelled true = refl
+rule_spelled false = refl
 
 integer_spelled : (z : ℤ) (ws : List (List ℕ)) → integer_at plain (signed_numeral z ∷ ws) ≡ Some (z, ws)
 integer_spelled z ws = ap (λ o. o >>= λ m. Some (m, ws)) (integer_by-numeral z)
@@ -150,14 +206,16 @@ after_spelled : (f : Form) → form_after plain (keyword_of f) (words_after f) �
 after_spelled (form.Set mode servers) =
     ap (λ o. o >>= λ first. one_number plain first.1 >>= λ n. Some (form.Set first.0 n)) (mode_spelled mode (numeral servers ∷ []))
     ∙ ap (λ o. o >>= λ n. Some (form.Set mode n)) (one_spelled servers)
-after_spelled (form.Items items queue) =
-    ap (λ o. o >>= λ first. queue_at first.1 >>= λ rest. one_number plain rest >>= λ n. Some (form.Items first.0 n)) (number_spelled items (codes "queue" ∷ numeral queue ∷ []))
-    ∙ ap (λ o. o >>= λ n. Some (form.Items items n)) (one_spelled queue)
-after_spelled (form.Change item time value) =
-    ap (λ o. o >>= λ i. number_at plain i.1 >>= λ t. integer_at plain t.1 >>= λ v. last_at v.1 >>= λ _. Some (form.Change i.0 t.0 v.0))
-    (number_spelled item (numeral time ∷ signed_numeral value ∷ []))
-    ∙ ap (λ o. o >>= λ t. integer_at plain t.1 >>= λ v. last_at v.1 >>= λ _. Some (form.Change item t.0 v.0)) (number_spelled time (signed_numeral value ∷ []))
-    ∙ ap (λ o. o >>= λ v. last_at v.1 >>= λ _. Some (form.Change item time v.0)) (integer_spelled value [])
+after_spelled (form.Items items queue oldest) =
+    ap (λ o. o >>= λ first. name_at (codes "queue") first.1 >>= λ rest. number_at plain rest >>= λ q. rule_at q.1 >>= λ r. Some (form.Items first.0 q.0 r))
+    (number_spelled items (codes "queue" ∷ numeral queue ∷ rule_words oldest))
+    ∙ ap (λ o. o >>= λ q. rule_at q.1 >>= λ r. Some (form.Items items q.0 r)) (number_spelled queue (rule_words oldest))
+    ∙ ap (λ o. o >>= λ r. Some (form.Items items queue r)) (rule_spelled oldest)
+after_spelled (form.Change item time pico value) =
+    ap (λ o. o >>= λ i. stamp_at plain i.1 >>= λ t. integer_at plain t.1 >>= λ v. last_at v.1 >>= λ _. Some (form.Change i.0 t.0.0 t.0.1 v.0))
+    (number_spelled item (stamp_numeral time pico ∷ signed_numeral value ∷ []))
+    ∙ ap (λ o. o >>= λ t. integer_at plain t.1 >>= λ v. last_at v.1 >>= λ _. Some (form.Change item t.0.0 t.0.1 v.0)) (stamp_at_spelled time pico (signed_numeral value ∷ []))
+    ∙ ap (λ o. o >>= λ v. last_at v.1 >>= λ _. Some (form.Change item time pico v.0)) (integer_spelled value [])
 after_spelled (form.Feed server count) = ap (λ o. o >>= λ n. Some (form.Feed n.0 n.1)) (two_spelled server count)
 after_spelled (form.Take server count) = ap (λ o. o >>= λ n. Some (form.Take n.0 n.1)) (two_spelled server count)
 after_spelled (form.Stop server) = ap (λ o. o >>= λ n. Some (form.Stop n)) (one_spelled server)
@@ -166,12 +224,30 @@ after_spelled (form.Listen item) = ap (λ o. o >>= λ n. Some (form.Listen n)) (
 after_spelled (form.Unlisten id) = ap (λ o. o >>= λ n. Some (form.Unlisten n)) (one_spelled id)
 after_spelled form.End = refl
 
+pub words_of-form_text : (f : Form) → words_of (form_text f) ≡ keyword_of f ∷ words_after f
+words_of-form_text f = ap (λ ws. words_of (spaced ws)) (words_are f) ∙ words_of-spaced (keyword_of f) (words_after f) (no_spaces f)
+
+-- no line feed stands in a spelling
+abbrev pub NoFeed : List ℕ → Type 0
+NoFeed [] = Unit {0}
+NoFeed (b ∷ rest) = ((b == 10) ≡ false) × NoFeed rest
+
+no_feed_join : (v w : List ℕ) → Solid v → NoFeed w → NoFeed (v ++ w)
+no_feed_join [] w h k = k
+no_feed_join (b ∷ v) w h k = (no_feed b h.0, no_feed_join v w h.1 k)
+
+after_no_feed : (ws : List (List ℕ)) → AllSolid ws → NoFeed (spaced_after ws)
+after_no_feed [] h = tt
+after_no_feed (w ∷ ws) h = (refl, no_feed_join w (spaced_after ws) h.0 (after_no_feed ws h.1))
+
+pub form_no_feed : (f : Form) → NoFeed (form_text f)
+form_no_feed f =
+    let P : List (List ℕ) → Type 0 = λ ws. NoFeed (spaced ws) in
+    subst P (sym (words_are f)) (no_feed_join (keyword_of f) (spaced_after (words_after f)) (no_spaces f).0 (after_no_feed (words_after f) (no_spaces f).1))
+
 -- what is spelled is read
 pub form_of-form_text : (f : Form) → form_of (form_text f) ≡ Some f
-form_of-form_text f =
-    ap (λ ws. form_by plain (words_of (spaced ws))) (words_are f)
-    ∙ ap (form_by plain) (words_of-spaced (keyword_of f) (words_after f) (no_spaces f))
-    ∙ after_spelled f
+form_of-form_text f = ap (form_by plain) (words_of-form_text f) ∙ after_spelled f
 
 -- what is read was spelled so: each piece
 got : {A B : Type 0} (o : Option A) (k : A → Option B) (y : B) → (o >>= k) ≡ Some y → (x : A) × (o ≡ Some x) × (k x ≡ Some y)
@@ -192,6 +268,46 @@ number_got ws x h =
     let b = got (number_by plain a.0.0) (λ n. Some (n, a.0.1)) x a.2 in
     let e : (b.0, a.0.1) ≡ x = cc in
     word_got ws a.0 a.1 ∙ ap (λ w. w ∷ a.0.1) (sym (numeral-number_by a.0.0 b.0 b.1)) ∙ ap (λ p. numeral p.0 ∷ p.1) e
+
+-- a word is its parts with the dot between them
+abbrev undotted : List ℕ → Option (List ℕ) → List ℕ
+undotted w None = w
+undotted w (Some t) = w ++ 46 ∷ t
+
+undotted-first : (b : ℕ) (w : List ℕ) (more : Option (List ℕ)) → undotted (b ∷ w) more ≡ b ∷ undotted w more
+undotted-first b w None = refl
+undotted-first b w (Some t) = refl
+
+undot_case : (b : ℕ) (rest : List ℕ) (dot : Bool) → (b == 46) ≡ dot → undotted (dotted rest).0 (dotted rest).1 ≡ rest
+    → undotted (dot_step dot b rest).0 (dot_step dot b rest).1 ≡ b ∷ rest
+undot_case b rest true e h = let is : 46 ≡ b = grind (arith, nat_tests) in ap (λ k. k ∷ rest) is
+undot_case b rest false e h = undotted-first b (dotted rest).0 (dotted rest).1 ∙ ap (λ t. b ∷ t) h
+
+undotted-dotted : (word : List ℕ) → undotted (dotted word).0 (dotted word).1 ≡ word
+undotted-dotted [] = refl
+undotted-dotted (b ∷ rest) = undot_case b rest (b == 46) refl (undotted-dotted rest)
+
+pico_got : (w : List ℕ) (digits : Option (List ℕ)) (time : ℕ) (pico : Option ℕ) → numeral time ≡ w → pico_by plain digits ≡ Some pico
+    → undotted w digits ≡ stamp_numeral time pico
+pico_got w None time pico e h = let k : None ≡ pico = cc in sym e ∙ ap (stamp_numeral time) k
+pico_got w (Some digits) time pico e h =
+    let a = got (number_by plain digits) (λ p. Some (Some p)) pico h in
+    let k : Some a.0 ≡ pico = cc in
+    ap (λ v. v ++ 46 ∷ digits) (sym e) ∙ ap (λ v. numeral time ++ 46 ∷ v) (sym (numeral-number_by digits a.0 a.1)) ∙ ap (stamp_numeral time) k
+
+stamp_word : (word : List ℕ) (x : ℕ × Option ℕ) → stamp_by plain word ≡ Some x → word ≡ stamp_numeral x.0 x.1
+stamp_word word x h =
+    let a = got (number_by plain (dotted word).0) (λ time. pico_by plain (dotted word).1 >>= λ pico. Some (time, pico)) x h in
+    let b = got (pico_by plain (dotted word).1) (λ pico. Some (a.0, pico)) x a.2 in
+    let e : (a.0, b.0) ≡ x = cc in
+    sym (undotted-dotted word) ∙ pico_got (dotted word).0 (dotted word).1 a.0 b.0 (numeral-number_by (dotted word).0 a.0 a.1) b.1 ∙ ap (λ p. stamp_numeral p.0 p.1) e
+
+stamp_got : (ws : List (List ℕ)) (x : (ℕ × Option ℕ) × List (List ℕ)) → stamp_at plain ws ≡ Some x → ws ≡ stamp_numeral x.0.0 x.0.1 ∷ x.1
+stamp_got ws x h =
+    let a = got (word_at ws) (λ first. stamp_by plain first.0 >>= λ s. Some (s, first.1)) x h in
+    let b = got (stamp_by plain a.0.0) (λ s. Some (s, a.0.1)) x a.2 in
+    let e : (b.0, a.0.1) ≡ x = cc in
+    word_got ws a.0 a.1 ∙ ap (λ w. w ∷ a.0.1) (stamp_word a.0.0 b.0 b.1) ∙ ap (λ p. stamp_numeral p.0.0 p.0.1 ∷ p.1) e
 
 integer_got : (ws : List (List ℕ)) (x : ℤ × List (List ℕ)) → integer_at plain ws ≡ Some x → ws ≡ signed_numeral x.0 ∷ x.1
 integer_got ws x h =
@@ -251,11 +367,11 @@ mode_got ws x h =
     let e : (b.0, a.0.1) ≡ x = cc in
     word_got ws a.0 a.1 ∙ ap (λ w. w ∷ a.0.1) (mode_word a.0.0 b.0 b.1) ∙ ap (λ p. mode_text p.0 ∷ p.1) e
 
-queue_got : (ws rest : List (List ℕ)) → queue_at ws ≡ Some rest → ws ≡ codes "queue" ∷ rest
-queue_got ws rest h =
-    let a = got (word_at ws) (λ first. cond (bytes_eq first.0 (codes "queue")) (Some first.1) None) rest h in
-    word_got ws a.0 a.1 ∙ elim (chosen (bytes_eq a.0.0 (codes "queue")) (Some a.0.1) None rest a.2) [
-      | inl b ↦ let e : a.0.1 ≡ rest = is_rest a.0.1 rest b.1 in ap (λ w. w ∷ a.0.1) (is_word a.0.0 _ b.0) ∙ ap (λ more. codes "queue" ∷ more) e
+name_got : (name : List ℕ) (ws rest : List (List ℕ)) → name_at name ws ≡ Some rest → ws ≡ name ∷ rest
+name_got name ws rest h =
+    let a = got (word_at ws) (λ first. cond (bytes_eq first.0 name) (Some first.1) None) rest h in
+    word_got ws a.0 a.1 ∙ elim (chosen (bytes_eq a.0.0 name) (Some a.0.1) None rest a.2) [
+      | inl b ↦ let e : a.0.1 ≡ rest = is_rest a.0.1 rest b.1 in ap (λ w. w ∷ a.0.1) (is_word a.0.0 _ b.0) ∙ ap (λ more. name ∷ more) e
       | inr b ↦ absurd (none rest b.1)
     ]
   where
@@ -265,6 +381,16 @@ queue_got ws rest h =
     none : (v : List (List ℕ)) → ◌≡◌ {A = Option (List (List ℕ))} None (Some v) → ⊥
     none v e = cc
 
+rule_got : (ws : List (List ℕ)) (oldest : Bool) → rule_at ws ≡ Some oldest → ws ≡ rule_words oldest
+rule_got [] oldest h = let e : true ≡ oldest = cc in ap rule_words e
+rule_got (w ∷ ws) oldest h =
+    let a = got (name_at (codes "discard") (w ∷ ws)) (λ rest. name_at (codes "newest") rest >>= λ more. last_at more >>= λ _. Some false) oldest h in
+    let b = got (name_at (codes "newest") a.0) (λ more. last_at more >>= λ _. Some false) oldest a.2 in
+    let c = got (last_at b.0) (λ _. Some false) oldest b.2 in
+    let e : false ≡ oldest = cc in
+    name_got (codes "discard") (w ∷ ws) a.0 a.1 ∙ ap (λ more. codes "discard" ∷ more)
+    (name_got (codes "newest") a.0 b.0 b.1 ∙ ap (λ more. codes "newest" ∷ more) (last_got b.0 c.0 c.1)) ∙ ap rule_words e
+
 -- a form that is read after its keyword was spelled so
 set_got : (ws : List (List ℕ)) (f : Form) → set_form plain ws ≡ Some f → codes "set" ∷ ws ≡ form_words f
 set_got ws f h =
@@ -273,29 +399,35 @@ set_got ws f h =
     let e : form.Set a.0.0 b.0 ≡ f = cc in
     ap (λ more. codes "set" ∷ more) (mode_got ws a.0 a.1 ∙ ap (λ more. mode_text a.0.0 ∷ more) (one_got a.0.1 b.0 b.1)) ∙ ap form_words e
 
+items_joined : (ws us vs rest : List (List ℕ)) (n q : ℕ) (oldest : Bool) (f : Form) → ws ≡ numeral n ∷ us → us ≡ codes "queue" ∷ vs → vs ≡ numeral q ∷ rest
+    → rest ≡ rule_words oldest → form.Items n q oldest ≡ f → codes "items" ∷ ws ≡ form_words f
+items_joined ws us vs rest n q oldest f a b c d e =
+    ap (λ more. codes "items" ∷ more) (a ∙ ap (λ more. numeral n ∷ more) (b ∙ ap (λ more. codes "queue" ∷ more) (c ∙ ap (λ more. numeral q ∷ more) d)))
+    ∙ ap form_words e
+
 items_got : (ws : List (List ℕ)) (f : Form) → items_form plain ws ≡ Some f → codes "items" ∷ ws ≡ form_words f
 items_got ws f h =
-    let a = got (number_at plain ws) (λ items. queue_at items.1 >>= λ rest. one_number plain rest >>= λ n. Some (form.Items items.0 n)) f h in
-    let b = got (queue_at a.0.1) (λ rest. one_number plain rest >>= λ n. Some (form.Items a.0.0 n)) f a.2 in
-    let c = got (one_number plain b.0) (λ n. Some (form.Items a.0.0 n)) f b.2 in
-    let e : form.Items a.0.0 c.0 ≡ f = cc in
-    ap (λ more. codes "items" ∷ more) (number_got ws a.0 a.1 ∙ ap (λ more. numeral a.0.0 ∷ more)
-    (queue_got a.0.1 b.0 b.1 ∙ ap (λ more. codes "queue" ∷ more) (one_got b.0 c.0 c.1))) ∙ ap form_words e
+    let a = got (number_at plain ws) (λ items. name_at (codes "queue") items.1 >>= λ rest. number_at plain rest >>= λ q. rule_at q.1 >>= λ r. Some (form.Items items.0 q.0 r)) f h in
+    let b = got (name_at (codes "queue") a.0.1) (λ rest. number_at plain rest >>= λ q. rule_at q.1 >>= λ r. Some (form.Items a.0.0 q.0 r)) f a.2 in
+    let c = got (number_at plain b.0) (λ q. rule_at q.1 >>= λ r. Some (form.Items a.0.0 q.0 r)) f b.2 in
+    let d = got (rule_at c.0.1) (λ r. Some (form.Items a.0.0 c.0.0 r)) f c.2 in
+    let e : form.Items a.0.0 c.0.0 d.0 ≡ f = cc in
+    items_joined ws a.0.1 b.0 c.0.1 a.0.0 c.0.0 d.0 f (number_got ws a.0 a.1) (name_got (codes "queue") a.0.1 b.0 b.1) (number_got b.0 c.0 c.1) (rule_got c.0.1 d.0 d.1) e
 
-change_joined : (ws us vs rest : List (List ℕ)) (i t : ℕ) (v : ℤ) (f : Form) → ws ≡ numeral i ∷ us → us ≡ numeral t ∷ vs → vs ≡ signed_numeral v ∷ rest → rest ≡ []
-    → form.Change i t v ≡ f → codes "change" ∷ ws ≡ form_words f
-change_joined ws us vs rest i t v f a b c d e =
-    ap (λ more. codes "change" ∷ more) (a ∙ ap (λ more. numeral i ∷ more) (b ∙ ap (λ more. numeral t ∷ more) (c ∙ ap (λ more. signed_numeral v ∷ more) d)))
+change_joined : (ws us vs rest : List (List ℕ)) (i t : ℕ) (p : Option ℕ) (v : ℤ) (f : Form) → ws ≡ numeral i ∷ us → us ≡ stamp_numeral t p ∷ vs
+    → vs ≡ signed_numeral v ∷ rest → rest ≡ [] → form.Change i t p v ≡ f → codes "change" ∷ ws ≡ form_words f
+change_joined ws us vs rest i t p v f a b c d e =
+    ap (λ more. codes "change" ∷ more) (a ∙ ap (λ more. numeral i ∷ more) (b ∙ ap (λ more. stamp_numeral t p ∷ more) (c ∙ ap (λ more. signed_numeral v ∷ more) d)))
     ∙ ap form_words e
 
 change_got : (ws : List (List ℕ)) (f : Form) → change_form plain ws ≡ Some f → codes "change" ∷ ws ≡ form_words f
 change_got ws f h =
-    let a = got (number_at plain ws) (λ i. number_at plain i.1 >>= λ t. integer_at plain t.1 >>= λ v. last_at v.1 >>= λ _. Some (form.Change i.0 t.0 v.0)) f h in
-    let b = got (number_at plain a.0.1) (λ t. integer_at plain t.1 >>= λ v. last_at v.1 >>= λ _. Some (form.Change a.0.0 t.0 v.0)) f a.2 in
-    let c = got (integer_at plain b.0.1) (λ v. last_at v.1 >>= λ _. Some (form.Change a.0.0 b.0.0 v.0)) f b.2 in
-    let d = got (last_at c.0.1) (λ _. Some (form.Change a.0.0 b.0.0 c.0.0)) f c.2 in
-    let e : form.Change a.0.0 b.0.0 c.0.0 ≡ f = cc in
-    change_joined ws a.0.1 b.0.1 c.0.1 a.0.0 b.0.0 c.0.0 f (number_got ws a.0 a.1) (number_got a.0.1 b.0 b.1) (integer_got b.0.1 c.0 c.1) (last_got c.0.1 d.0 d.1) e
+    let a = got (number_at plain ws) (λ i. stamp_at plain i.1 >>= λ t. integer_at plain t.1 >>= λ v. last_at v.1 >>= λ _. Some (form.Change i.0 t.0.0 t.0.1 v.0)) f h in
+    let b = got (stamp_at plain a.0.1) (λ t. integer_at plain t.1 >>= λ v. last_at v.1 >>= λ _. Some (form.Change a.0.0 t.0.0 t.0.1 v.0)) f a.2 in
+    let c = got (integer_at plain b.0.1) (λ v. last_at v.1 >>= λ _. Some (form.Change a.0.0 b.0.0.0 b.0.0.1 v.0)) f b.2 in
+    let d = got (last_at c.0.1) (λ _. Some (form.Change a.0.0 b.0.0.0 b.0.0.1 c.0.0)) f c.2 in
+    let e : form.Change a.0.0 b.0.0.0 b.0.0.1 c.0.0 ≡ f = cc in
+    change_joined ws a.0.1 b.0.1 c.0.1 a.0.0 b.0.0.0 b.0.0.1 c.0.0 f (number_got ws a.0 a.1) (stamp_got a.0.1 b.0 b.1) (integer_got b.0.1 c.0 c.1) (last_got c.0.1 d.0 d.1) e
 
 two_form_got : (name : List ℕ) (g : ℕ → ℕ → Form) → ((m n : ℕ) → name ∷ (numeral m ∷ numeral n ∷ []) ≡ form_words (g m n))
     → (ws : List (List ℕ)) (f : Form) → (two_numbers plain ws >>= λ n. Some (g n.0 n.1)) ≡ Some f → name ∷ ws ≡ form_words f

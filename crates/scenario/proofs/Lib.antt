@@ -5,4 +5,5 @@ pub mod CapLemmas
 pub mod ValidLemmas
 pub mod NumeralLemmas
 pub mod GrammarLemmas
+pub mod ReadLemmas
 pub mod WrittenLemmas

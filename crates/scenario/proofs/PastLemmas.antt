@@ -8,7 +8,6 @@ use Rattle.std.proofs.lemmas.List.Folds.{list_any-append}
 use Rattle.std.proofs.lemmas.Grind.{get_or-set_at}
 use Rattle.std.proofs.lemmas.List.Elements.{filter-append}
 use Rattle.set_model.specs.declared.source.Change.{Change}
-use Rattle.set_model.specs.declared.source.TheConstants.{MOST_CHANGES}
 use Rattle.set_model.specs.Source.{End, no_end, IsEndOf}
 use Rattle.set_model.proofs.SourceLemmas.{no_end_is}
 use Rattle.scenario.specs.declared.line.Line.{Line}
@@ -203,15 +202,15 @@ recalls_more ls end more t ids (line.Set mode servers) long h may grown =
       heard = let e : listens_in (ls ++ line.Set mode servers ∷ []) ≡ listens_in ls + 0 = listens_in-more ls (line.Set mode servers) in let k : t.listens ≡ listens_in ls = h.listens_are in omega arith;
       ended = h.ended_is ∙ sym (has_ended-more ls l);
     })
-recalls_more ls end more t ids (line.Items items queue) long h may grown =
-    let l : Line = line.Items items queue in
+recalls_more ls end more t ids (line.Items items queue oldest) long h may grown =
+    let l : Line = line.Items items queue oldest in
     recalls_by ls end more t _ ids l h grown (record {
       servers = h.servers_are ∙ sym (servers_in-more ls l refl);
       few_servers = h.few_servers;
       few_items = may.1;
       items = sym (items_second ls l may.0);
       lives = lives_kept t.lives ls l h.lives_are (λ _. refl) (λ _. refl);
-      heard = let e : listens_in (ls ++ line.Items items queue ∷ []) ≡ listens_in ls + 0 = listens_in-more ls (line.Items items queue) in let k : t.listens ≡ listens_in ls = h.listens_are in omega arith;
+      heard = let e : listens_in (ls ++ line.Items items queue oldest ∷ []) ≡ listens_in ls + 0 = listens_in-more ls (line.Items items queue oldest) in let k : t.listens ≡ listens_in ls = h.listens_are in omega arith;
       ended = h.ended_is ∙ sym (has_ended-more ls l);
     })
 recalls_more ls end more t ids (line.Change change) long h may grown =
@@ -296,7 +295,7 @@ pub recalls_then : (ls ks : List Line) (end more : End) (t u : Tally) (ids other
 recalls_then ls ks end more t u ids others l long h may e grown g i =
     recalls_at _ _ _ _ _ _ _ (sym e) (sym g) (sym i) (recalls_more ls end more t ids l long h may grown)
 
-room_when : (n m : ℕ) → n ≡ m → m < MOST_CHANGES → n < MOST_CHANGES
+room_when : (n m : ℕ) → n ≡ m → m < 200000 → n < 200000
 room_when n m e few = omega arith
 
 -- a line that may follow finds room at the end of the source

@@ -1,5 +1,5 @@
 -- The lines of a valid text are a scenario.
-use Rattle.std.proofs.Common.{◌≡◌, ◌==◌, ℕ, ◌+◌, ◌<◌, ◌≤◌, ℤ, List, [], ◌∷◌, ◌++◌, Bool, true, false, cond, not, Option, Some, None, Result, Ok, Err, length, refl, sym, ◌∙◌, ap, subst, arith, int_lt}
+use Rattle.std.proofs.Common.{◌≡◌, ◌==◌, ℕ, ◌+◌, ◌<◌, ◌≤◌, ◌^◌, List, [], ◌∷◌, ◌++◌, Bool, true, false, cond, not, Option, Some, None, Result, Ok, Err, length, refl, sym, ◌∙◌, ap, subst, arith}
 use Rattle.std.specs.Prelude.{nat_le, ◌||◌}
 use Rattle.std.specs.Ordering.{int_eq}
 use Rattle.std.proofs.lemmas.Bool.Decides.{nat_tests}
@@ -10,8 +10,9 @@ use Rattle.ua_base.specs.declared.modes.SetMode.TheVariants.{Direct, Hot, Warm, 
 use Rattle.set_model.specs.declared.source.Change.{Change}
 use Rattle.set_model.specs.declared.source.SourceFault.{SourceFault}
 use Rattle.set_model.specs.declared.source.SourceFault.TheVariants as source
-use Rattle.set_model.specs.declared.source.TheConstants.{MOST_CHANGES}
-use Rattle.set_model.specs.Source.{IsSource, refusal, refusal_after, last_of}
+use Rattle.set_model.specs.declared.stamp.Stamp.{Stamp}
+use Rattle.set_model.specs.Stamp.{is_before}
+use Rattle.set_model.specs.Source.{IsSource, refusal, refusal_after, last_of, stamp_of}
 use Rattle.set_model.proofs.SourceLemmas.{allowed_after, source_more}
 use Rattle.scenario.specs.declared.form.Form.{Form}
 use Rattle.scenario.specs.declared.form.Form.TheVariants as form
@@ -20,10 +21,9 @@ use Rattle.scenario.specs.declared.line.Line.TheVariants as line
 use Rattle.scenario.specs.declared.fault.FaultKind.{FaultKind}
 use Rattle.scenario.specs.declared.fault.FaultKind.TheVariants as kind
 use Rattle.scenario.specs.declared.fault.ScenarioFault.{ScenarioFault}
-use Rattle.scenario.specs.declared.reader.TheConstants.{MOST_LINES}
 use Rattle.scenario.specs.Words.{lines_of}
 use Rattle.scenario.specs.Past.{servers_of, items_of, servers_in, items_in, change_of, changes_in, ends, has_ended, starts, boot_of, listens, listens_in, attached_in}
-use Rattle.scenario.specs.Faults.{is_within, is_direct, kind_of_refusal, the_change, line_of, judged}
+use Rattle.scenario.specs.Faults.{is_within, is_direct, fits_value, kind_of_refusal, pico_of, the_change, line_of, judged}
 use Rattle.scenario.specs.Scenario.{kind_at_end, go_on, valid_from, scenario_of}
 use Rattle.scenario.specs.Valid.{IsFrom, Fits, AllFit, IsScenario}
 use Rattle.scenario.proofs.PastLemmas.{changes_in-more, servers_in-more, items_in-more, has_ended-more, boot_of-more, listens_in-more}
@@ -71,7 +71,7 @@ followed pool before (text ∷ texts) lines h =
 pub few_follow : (pool : ℕ) (before more : List Line) → length before ≤ 1000000 → Follow pool before more → length (before ++ more) ≤ 1000000
 few_follow pool before [] few h = rw (append-nil before) few
 few_follow pool before (l ∷ ls) few h =
-    let t : length before < MOST_LINES = (taken pool before h.0.text l h.0.is).few in
+    let t : length before < 1000000 = (taken pool before h.0.text l h.0.is).few in
     let e : length (before ++ l ∷ []) ≡ length before + 1 = length-append before (l ∷ []) in
     let P : List Line → Type 0 = λ all. length all ≤ 1000000 in
     subst P (append_assoc before (l ∷ []) ls) (few_follow pool (before ++ l ∷ []) ls (omega arith) h.1)
@@ -82,8 +82,8 @@ pool_left pool n m h = grind (arith, nat_tests)
 -- a listen that is taken finds a listener
 listens_left : (pool : ℕ) (before : List Line) (f : Form) → Passes pool before f → listens_in before ≤ pool → listens_in before + cond (listens (line_of f)) 1 0 ≤ pool
 listens_left pool before (form.Set mode servers) h few = omega arith
-listens_left pool before (form.Items items queue) h few = omega arith
-listens_left pool before (form.Change item time value) h few = omega arith
+listens_left pool before (form.Items items queue oldest) h few = omega arith
+listens_left pool before (form.Change item time pico value) h few = omega arith
 listens_left pool before (form.Feed server count) h few = omega arith
 listens_left pool before (form.Take server count) h few = omega arith
 listens_left pool before (form.Stop server) h few = omega arith
@@ -116,8 +116,8 @@ start_left other server before true is less few =
 boots_left : (pool server : ℕ) (before : List Line) (f : Form) → Passes pool before f → boot_of server before ≤ 65535
     → boot_of server before + cond (starts server (line_of f)) 1 0 ≤ 65535
 boots_left pool server before (form.Set mode servers) h few = omega arith
-boots_left pool server before (form.Items items queue) h few = omega arith
-boots_left pool server before (form.Change item time value) h few = omega arith
+boots_left pool server before (form.Items items queue oldest) h few = omega arith
+boots_left pool server before (form.Change item time pico value) h few = omega arith
 boots_left pool server before (form.Feed other count) h few = omega arith
 boots_left pool server before (form.Take other count) h few = omega arith
 boots_left pool server before (form.Stop other) h few = omega arith
@@ -137,29 +137,30 @@ boots_follow pool server before (l ∷ ls) few h =
     subst P (append_assoc before (l ∷ []) ls) (boots_follow pool server (before ++ l ∷ []) ls (omega arith) h.1)
 
 -- a change of which the source has no fault is not refused
-none_after : (late same : Bool) (time : ℤ) → kind_of_refusal (cond late (Some (source.TimeNotRising time)) (cond same (Some source.SameValue) None)) ≡ None
-    → cond late (Some (source.TimeNotRising time)) (cond same (Some source.SameValue) None) ≡ None
-none_after true same time h = absurd cc
-none_after false true time h = absurd cc
-none_after false false time h = refl
+none_after : (late same : Bool) (last : Stamp) → kind_of_refusal (cond late (Some (source.TimeNotRising last)) (cond same (Some source.SameValue) None)) ≡ None
+    → cond late (Some (source.TimeNotRising last)) (cond same (Some source.SameValue) None) ≡ None
+none_after true same last h = absurd cc
+none_after false true last h = absurd cc
+none_after false false last h = refl
 
 none_last : (last : Option Change) (change : Change) → kind_of_refusal (refusal_after last change) ≡ None → refusal_after last change ≡ None
 none_last None change h = refl
-none_last (Some last) change h = none_after (not (int_lt last.time change.time)) (int_eq change.value last.value) last.time h
+none_last (Some last) change h = none_after (not (is_before (stamp_of last) (stamp_of change))) (int_eq change.value last.value) (stamp_of last) h
 
 none_full : (full : Bool) (o : Option SourceFault) → (kind_of_refusal o ≡ None → o ≡ None) → kind_of_refusal (cond full (Some source.Full) o) ≡ None → cond full (Some source.Full) o ≡ None
 none_full true o f h = absurd cc
 none_full false o f h = f h
 
 not_refused : (changes : List Change) (change : Change) → kind_of_refusal (refusal changes change) ≡ None → refusal changes change ≡ None
-not_refused changes change h = none_full (nat_le MOST_CHANGES (length changes)) (refusal_after (last_of change.item changes) change) (none_last (last_of change.item changes) change) h
+not_refused changes change h = none_full (nat_le 200000 (length changes)) (refusal_after (last_of change.item changes) change) (none_last (last_of change.item changes) change) h
 
 source_step : (pool : ℕ) (before : List Line) (f : Form) → Passes pool before f → IsSource (changes_in before) → IsSource (changes_in before ++ change_of (line_of f))
-source_step pool before (form.Change item time value) h s =
-    source_more (changes_in before) (the_change item time value) s
-    (allowed_after (changes_in before) (the_change item time value) (not_refused (changes_in before) (the_change item time value) h.source))
+source_step pool before (form.Change item time pico value) h s =
+    source_more (changes_in before) (the_change item time pico value)
+    (within_range 0 9999 (pico_of pico) (and_parts (is_within 1 (10 ^ 18) time) (is_within 0 9999 (pico_of pico)) (and_parts _ (fits_value value) h.range).0).1).1 s
+    (allowed_after (changes_in before) (the_change item time pico value) (not_refused (changes_in before) (the_change item time pico value) h.source))
 source_step pool before (form.Set mode servers) h s = rw (append-nil (changes_in before)) s
-source_step pool before (form.Items items queue) h s = rw (append-nil (changes_in before)) s
+source_step pool before (form.Items items queue oldest) h s = rw (append-nil (changes_in before)) s
 source_step pool before (form.Feed server count) h s = rw (append-nil (changes_in before)) s
 source_step pool before (form.Take server count) h s = rw (append-nil (changes_in before)) s
 source_step pool before (form.Stop server) h s = rw (append-nil (changes_in before)) s
@@ -183,19 +184,19 @@ none_is_room true o h = absurd cc
 none_is_room false o h = refl
 
 -- a change that is not refused finds room
-room_left : (changes : List Change) (change : Change) → refusal changes change ≡ None → length changes < MOST_CHANGES
+room_left : (changes : List Change) (change : Change) → refusal changes change ≡ None → length changes < 200000
 room_left changes change h =
-    let b : nat_le MOST_CHANGES (length changes) ≡ false = none_is_room (nat_le MOST_CHANGES (length changes)) (refusal_after (last_of change.item changes) change) h in
+    let b : nat_le 200000 (length changes) ≡ false = none_is_room (nat_le 200000 (length changes)) (refusal_after (last_of change.item changes) change) h in
     grind (arith, nat_tests)
 
-room_step : (pool : ℕ) (before : List Line) (f : Form) → Passes pool before f → length (changes_in before) ≤ MOST_CHANGES
-    → length (changes_in before ++ change_of (line_of f)) ≤ MOST_CHANGES
-room_step pool before (form.Change item time value) h few =
-    let room : length (changes_in before) < MOST_CHANGES =
-    room_left (changes_in before) (the_change item time value) (not_refused (changes_in before) (the_change item time value) h.source) in
-    omega (arith, length-append (changes_in before) (the_change item time value ∷ []))
+room_step : (pool : ℕ) (before : List Line) (f : Form) → Passes pool before f → length (changes_in before) ≤ 200000
+    → length (changes_in before ++ change_of (line_of f)) ≤ 200000
+room_step pool before (form.Change item time pico value) h few =
+    let room : length (changes_in before) < 200000 =
+    room_left (changes_in before) (the_change item time pico value) (not_refused (changes_in before) (the_change item time pico value) h.source) in
+    omega (arith, length-append (changes_in before) (the_change item time pico value ∷ []))
 room_step pool before (form.Set mode servers) h few = rw (append-nil (changes_in before)) few
-room_step pool before (form.Items items queue) h few = rw (append-nil (changes_in before)) few
+room_step pool before (form.Items items queue oldest) h few = rw (append-nil (changes_in before)) few
 room_step pool before (form.Feed server count) h few = rw (append-nil (changes_in before)) few
 room_step pool before (form.Take server count) h few = rw (append-nil (changes_in before)) few
 room_step pool before (form.Stop server) h few = rw (append-nil (changes_in before)) few
@@ -204,15 +205,15 @@ room_step pool before (form.Listen item) h few = rw (append-nil (changes_in befo
 room_step pool before (form.Unlisten id) h few = rw (append-nil (changes_in before)) few
 room_step pool before form.End h few = rw (append-nil (changes_in before)) few
 
-pub changes_follow : (pool : ℕ) (before more : List Line) → length (changes_in before) ≤ MOST_CHANGES → Follow pool before more
-    → length (changes_in (before ++ more)) ≤ MOST_CHANGES
+pub changes_follow : (pool : ℕ) (before more : List Line) → length (changes_in before) ≤ 200000 → Follow pool before more
+    → length (changes_in (before ++ more)) ≤ 200000
 changes_follow pool before [] few h = rw (append-nil before) few
 changes_follow pool before (l ∷ ls) few h =
     let t = taken pool before h.0.text l h.0.is in
-    let P : List Line → Type 0 = λ all. length (changes_in all) ≤ MOST_CHANGES in
-    let Q : Line → Type 0 = λ m. length (changes_in before ++ change_of m) ≤ MOST_CHANGES in
-    let R : List Change → Type 0 = λ all. length all ≤ MOST_CHANGES in
-    let now : length (changes_in (before ++ l ∷ [])) ≤ MOST_CHANGES = subst R (sym (changes_in-more before l)) (subst Q t.line_is (room_step pool before t.f t.passes few)) in
+    let P : List Line → Type 0 = λ all. length (changes_in all) ≤ 200000 in
+    let Q : Line → Type 0 = λ m. length (changes_in before ++ change_of m) ≤ 200000 in
+    let R : List Change → Type 0 = λ all. length all ≤ 200000 in
+    let now : length (changes_in (before ++ l ∷ [])) ≤ 200000 = subst R (sym (changes_in-more before l)) (subst Q t.line_is (room_step pool before t.f t.passes few)) in
     subst P (append_assoc before (l ∷ []) ls) (changes_follow pool (before ++ l ∷ []) ls now h.1)
 
 false_true : false ≡ true → ⊥
@@ -266,8 +267,8 @@ closed pool before (l ∷ ls) long e h =
   where
     still : (pool : ℕ) (before : List Line) (f : Form) → 2 ≤ length before → Passes pool before f → has_ended before ≡ false
     still pool before (form.Set mode servers) long p = (later (length before) true false (has_ended before) long p.place).open_still
-    still pool before (form.Items items queue) long p = (later (length before) false true (has_ended before) long p.place).open_still
-    still pool before (form.Change item time value) long p = (later (length before) false false (has_ended before) long p.place).open_still
+    still pool before (form.Items items queue oldest) long p = (later (length before) false true (has_ended before) long p.place).open_still
+    still pool before (form.Change item time pico value) long p = (later (length before) false false (has_ended before) long p.place).open_still
     still pool before (form.Feed server count) long p = (later (length before) false false (has_ended before) long p.place).open_still
     still pool before (form.Take server count) long p = (later (length before) false false (has_ended before) long p.place).open_still
     still pool before (form.Stop server) long p = (later (length before) false false (has_ended before) long p.place).open_still
@@ -286,9 +287,9 @@ wide a b n e h = (h.0, omega arith)
 
 next : (pool servers items : ℕ) (before : List Line) (f : Form) → Open servers items before → Passes pool before f → Next servers items before (line_of f)
 next pool servers items before (form.Set mode count) o p = absurd (false_true (sym (later (length before) true false (has_ended before) o.long p.place).set))
-next pool servers items before (form.Items count queue) o p = absurd (false_true (sym (later (length before) false true (has_ended before) o.long p.place).items))
-next pool servers items before (form.Change item time value) o p =
-    (wide _ _ item o.items_are (within_range 1 (items_in before) item p.item), stays_open servers items before (line.Change (the_change item time value)) o refl refl refl)
+next pool servers items before (form.Items count queue oldest) o p = absurd (false_true (sym (later (length before) false true (has_ended before) o.long p.place).items))
+next pool servers items before (form.Change item time pico value) o p =
+    (wide _ _ item o.items_are (within_range 1 (items_in before) item p.item), stays_open servers items before (line.Change (the_change item time pico value)) o refl refl refl)
 next pool servers items before (form.Feed server count) o p =
     ((wide _ _ server o.servers_are (within_range 1 (servers_in before) server p.server), within_range 1 200000 count p.range), stays_open servers items before (line.Feed server count) o refl refl refl)
 next pool servers items before (form.Take server count) o p =
@@ -313,7 +314,7 @@ body_step pool servers items before line.End ls long n h more =
     let none : ls ≡ [] = closed pool (before ++ line.End ∷ []) ls (omega arith) (has_ended-more before line.End) h in
     record { body = []; rest_is = ap (λ rest. line.End ∷ rest) none; fits = tt }
 body_step pool servers items before (line.Set mode count) ls long n h more = absurd n.0
-body_step pool servers items before (line.Items count queue) ls long n h more = absurd n.0
+body_step pool servers items before (line.Items count queue oldest) ls long n h more = absurd n.0
 body_step pool servers items before (line.Change change) ls long n h more = with_line servers items (line.Change change) ls n.0 (more n.1)
 body_step pool servers items before (line.Feed server count) ls long n h more = with_line servers items (line.Feed server count) ls n.0 (more n.1)
 body_step pool servers items before (line.Take server count) ls long n h more = with_line servers items (line.Take server count) ls n.0 (more n.1)
@@ -339,7 +340,8 @@ record First (l : Line) : Type 0 where
 record Second (l : Line) : Type 0 where
   items : ℕ
   queue : ℕ
-  is : l ≡ line.Items items queue
+  oldest : Bool
+  is : l ≡ line.Items items queue oldest
   items_fit : IsFrom 1 64 items
   queue_fits : IsFrom 2 1000 queue
 
@@ -351,8 +353,8 @@ direct Cold servers h = absurd cc
 
 first_form : (pool : ℕ) (f : Form) → Passes pool [] f → First (line_of f)
 first_form pool (form.Set mode servers) p = record { servers = servers; is = direct mode servers p.built; fits = within_range 1 8 servers p.range }
-first_form pool (form.Items items queue) p = absurd (false_true p.place)
-first_form pool (form.Change item time value) p = absurd (false_true p.place)
+first_form pool (form.Items items queue oldest) p = absurd (false_true p.place)
+first_form pool (form.Change item time pico value) p = absurd (false_true p.place)
 first_form pool (form.Feed server count) p = absurd (false_true p.place)
 first_form pool (form.Take server count) p = absurd (false_true p.place)
 first_form pool (form.Stop server) p = absurd (false_true p.place)
@@ -362,11 +364,11 @@ first_form pool (form.Unlisten id) p = absurd (false_true p.place)
 first_form pool form.End p = absurd (false_true p.place)
 
 second_form : (pool : ℕ) (first : Line) (f : Form) → Passes pool (first ∷ []) f → Second (line_of f)
-second_form pool first (form.Items items queue) p =
+second_form pool first (form.Items items queue oldest) p =
     let parts = and_parts (is_within 1 64 items) (is_within 2 1000 queue) p.range in
-    record { items = items; queue = queue; is = refl; items_fit = within_range 1 64 items parts.0; queue_fits = within_range 2 1000 queue parts.1 }
+    record { items = items; queue = queue; oldest = oldest; is = refl; items_fit = within_range 1 64 items parts.0; queue_fits = within_range 2 1000 queue parts.1 }
 second_form pool first (form.Set mode servers) p = absurd (false_true p.place)
-second_form pool first (form.Change item time value) p = absurd (false_true p.place)
+second_form pool first (form.Change item time pico value) p = absurd (false_true p.place)
 second_form pool first (form.Feed server count) p = absurd (false_true p.place)
 second_form pool first (form.Take server count) p = absurd (false_true p.place)
 second_form pool first (form.Stop server) p = absurd (false_true p.place)
@@ -387,8 +389,8 @@ second_of_all pool first l h =
     let P : Line → Type 0 = λ m. Second m in
     subst P t.line_is (second_form pool first t.f t.passes)
 
-open_set : (servers items queue : ℕ) (l m : Line) → l ≡ line.Set Direct servers → m ≡ line.Items items queue → Open servers items (l ∷ (m ∷ []))
-open_set servers items queue l m e f =
+open_set : (servers items queue : ℕ) (oldest : Bool) (l m : Line) → l ≡ line.Set Direct servers → m ≡ line.Items items queue oldest → Open servers items (l ∷ (m ∷ []))
+open_set servers items queue oldest l m e f =
     let P : Line → Type 0 = λ x. Open servers items (x ∷ (m ∷ [])) in
     let Q : Line → Type 0 = λ x. Open servers items (line.Set Direct servers ∷ (x ∷ [])) in
     subst P (sym e) (subst Q (sym f) (record { long = omega arith; servers_are = refl; items_are = refl; open_still = refl }))
@@ -399,21 +401,22 @@ no_end l f h =
     false_true (subst P f.is h)
 
 -- lines that follow one another from the first on are a scenario
-scenario_from : (pool : ℕ) (lines : List Line) → Follow pool [] lines → IsSource (changes_in lines) → length (changes_in lines) ≤ MOST_CHANGES → length lines ≤ 1000000 → listens_in lines ≤ pool
+scenario_from : (pool : ℕ) (lines : List Line) → Follow pool [] lines → IsSource (changes_in lines) → length (changes_in lines) ≤ 200000 → length lines ≤ 1000000 → listens_in lines ≤ pool
     → ((server : ℕ) → boot_of server lines ≤ 65535) → IsScenario pool lines
 scenario_from pool [] h s room few heard boots = absurd (false_true h)
 scenario_from pool (l ∷ []) h s room few heard boots = absurd (no_end l (first_of_all pool l h.0) h.1)
 scenario_from pool (l ∷ (m ∷ rest)) h s room few heard boots =
     let a = first_of_all pool l h.0 in
     let b = second_of_all pool l m h.1.0 in
-    let c = body_of pool a.servers b.items (l ∷ (m ∷ [])) rest (open_set a.servers b.items b.queue l m a.is b.is) h.1.1 in
+    let c = body_of pool a.servers b.items (l ∷ (m ∷ [])) rest (open_set a.servers b.items b.queue b.oldest l m a.is b.is) h.1.1 in
     record {
       servers = a.servers;
       items = b.items;
       queue = b.queue;
+      oldest = b.oldest;
       body = c.body;
       lines_are = ap (λ x. x ∷ (m ∷ rest)) a.is ∙ ap (λ x. line.Set Direct a.servers ∷ (x ∷ rest)) b.is
-          ∙ ap (λ x. line.Set Direct a.servers ∷ (line.Items b.items b.queue ∷ x)) c.rest_is;
+          ∙ ap (λ x. line.Set Direct a.servers ∷ (line.Items b.items b.queue b.oldest ∷ x)) c.rest_is;
       servers_fit = a.fits;
       items_fit = b.items_fit;
       queue_fits = b.queue_fits;
@@ -430,6 +433,6 @@ valid_lines pool bytes lines h =
     let f = followed pool [] (lines_of bytes) lines h in
     let P : List Line → Type 0 = λ all. IsScenario pool all in
     subst P (sym f.lines_are)
-    (scenario_from pool f.more f.follow (source_follow pool [] f.more (record { rises = λ _. tt }) f.follow)
+    (scenario_from pool f.more f.follow (source_follow pool [] f.more (record { rises = λ _. tt; picos = tt }) f.follow)
     (changes_follow pool [] f.more (omega arith) f.follow) (few_follow pool [] f.more (omega arith) f.follow)
     (listens_follow pool [] f.more (omega arith) f.follow) (λ server. boots_follow pool server [] f.more (omega arith) f.follow))

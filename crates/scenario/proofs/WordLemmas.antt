@@ -5,8 +5,8 @@ use Rattle.std.specs.List.{position_or_len}
 use Rattle.std.specs.Char.{is_ascii_digit}
 use Rattle.std.proofs.lemmas.Bool.Decides.{nat_tests}
 use Rattle.std.proofs.lemmas.List.{take_rest}
-use Rattle.scenario.specs.Words.{with_first, lines_of, words_of, digits_from, capped, read_by}
-use Rattle.scenario.specs.Grammar.{last_at}
+use Rattle.scenario.specs.Words.{with_first, lines_of, words_of, dotted, digits_from, capped, read_by}
+use Rattle.scenario.specs.Grammar.{last_at, newest_at, rule_at}
 
 abbrev pub is_at : ℕ → ℕ → Bool
 is_at sep byte = byte == sep
@@ -80,6 +80,49 @@ pub word_last : (xs : List ℕ) → position (is_at 32) xs ≡ None → words_of
 word_last [] h = refl
 word_last (x ∷ xs) h = uncut 32 words_of (λ y ys. refl) (λ y. refl) x xs (place_none _ _ _ refl h)
 
+-- one byte more before a word that is cut at its first dot
+abbrev pub dot_step : Bool → ℕ → List ℕ → List ℕ × Option (List ℕ)
+dot_step b x xs = cond b ([], Some xs) (x ∷ (dotted xs).0, (dotted xs).1)
+
+-- up to the first dot, and behind it
+dot_case : (x : ℕ) (xs : List ℕ) (k : ℕ) (b : Bool) → (k < length xs → dotted xs ≡ (take k xs, Some (drop (k + 1) xs)))
+    → cond (not b) (1 + k) 0 < suc (length xs)
+    → dot_step b x xs ≡ (take (cond (not b) (1 + k) 0) (x ∷ xs), Some (drop (cond (not b) (1 + k) 0 + 1) (x ∷ xs)))
+dot_case x xs k true more h = refl
+dot_case x xs k false more h =
+    let e : 1 + k ≡ suc k = omega arith in
+    let f : 1 + k + 1 ≡ suc (k + 1) = omega arith in
+    rw (f, e) (ap (λ d. (x ∷ d.0, d.1)) (more (omega arith)))
+
+dot_at : (xs : List ℕ) → position_or_len (is_at 46) xs < length xs
+    → dotted xs ≡ (take (position_or_len (is_at 46) xs) xs, Some (drop (position_or_len (is_at 46) xs + 1) xs))
+dot_at [] h = absurd (omega arith)
+dot_at (x ∷ xs) h = dot_case x xs (position_or_len (is_at 46) xs) (x == 46) (dot_at xs) h
+
+undot_case : (x : ℕ) (xs : List ℕ) (k : ℕ) (b : Bool) → (length xs ≤ k → dotted xs ≡ (xs, None)) → suc (length xs) ≤ cond (not b) (1 + k) 0
+    → dot_step b x xs ≡ (x ∷ xs, None)
+undot_case x xs k true more h = absurd (omega arith)
+undot_case x xs k false more h = ap (λ d. (x ∷ d.0, d.1)) (more (omega arith))
+
+undot : (xs : List ℕ) → length xs ≤ position_or_len (is_at 46) xs → dotted xs ≡ (xs, None)
+undot [] h = refl
+undot (x ∷ xs) h = undot_case x xs (position_or_len (is_at 46) xs) (x == 46) (undot xs) h
+
+dot_place : (xs : List ℕ) (k place : ℕ) → k ≡ place → dotted xs ≡ (take k xs, Some (drop (k + 1) xs))
+    → dotted xs ≡ (take place xs, Some (take (length xs - (place + 1)) (drop (place + 1) xs)))
+dot_place xs k place e h =
+    let P : ℕ → Type 0 = λ n. dotted xs ≡ (take n xs, Some (drop (n + 1) xs)) in
+    rw (take_rest xs (place + 1)) (subst P e h)
+
+pub dot_found : (xs : List ℕ) (place : ℕ) → position (is_at 46) xs ≡ Some place
+    → dotted xs ≡ (take place xs, Some (take (length xs - (place + 1)) (drop (place + 1) xs)))
+dot_found xs place h =
+    let at = place_some (position_or_len (is_at 46) xs) (length xs) place _ refl h in
+    dot_place xs _ place at.1 (dot_at xs at.0)
+
+pub dot_none : (xs : List ℕ) → position (is_at 46) xs ≡ None → dotted xs ≡ (xs, None)
+dot_none xs h = undot xs (place_none _ _ _ refl h)
+
 some_first : (byte : ℕ) (words : List (List ℕ)) → last_at (with_first byte words) ≡ None
 some_first byte [] = refl
 some_first byte (word ∷ words) = refl
@@ -92,6 +135,14 @@ some_word byte rest false = some_first byte (words_of rest)
 pub words_some : (text : List ℕ) → last_at (words_of text) ≡ None
 words_some [] = refl
 words_some (byte ∷ rest) = some_word byte rest (byte == 32)
+
+rule_first : (words : List (List ℕ)) → last_at words ≡ None → rule_at words ≡ newest_at words
+rule_first [] h = absurd cc
+rule_first (word ∷ words) h = refl
+
+-- where words are left, they must say that the newest is discarded
+pub rule_some : (text : List ℕ) → rule_at (words_of text) ≡ newest_at (words_of text)
+rule_some text = rule_first (words_of text) (words_some text)
 
 -- digits read with each step capped
 abbrev pub capped_digits : ℕ → List ℕ → Option ℕ

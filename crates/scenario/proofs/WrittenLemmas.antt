@@ -1,6 +1,6 @@
 -- What is written is read again, and what is read was written so.
-use Rattle.std.proofs.Common.{◌≡◌, ◌==◌, ℕ, ◌+◌, ◌<◌, ◌^◌, ◌⊎◌, inl, inr, List, [], ◌∷◌, ◌++◌, Bool, true, false, cond, None, Ok, length, refl, sym, ◌∙◌, ap, subst, arith}
-use Rattle.std.specs.Prelude.{codes, map}
+use Rattle.std.proofs.Common.{◌≡◌, ◌==◌, ℕ, ◌+◌, ◌<◌, ◌^◌, ◌⊎◌, inl, inr, List, [], ◌∷◌, ◌++◌, Bool, true, false, cond, Option, Some, None, Ok, length, refl, sym, ◌∙◌, ap, subst, arith}
+use Rattle.std.specs.Prelude.{codes, map, ◌&&◌}
 use Rattle.std.specs.List.{flat_map}
 use Rattle.std.specs.Fmt.{decimal, signed_decimal}
 use Rattle.std.proofs.lemmas.Bool.Decides.{nat_tests}
@@ -9,16 +9,17 @@ use Rattle.std.proofs.lemmas.List.{append_assoc, append-nil}
 use Rattle.scenario.specs.declared.form.Form.{Form}
 use Rattle.scenario.specs.declared.form.Form.TheVariants as form
 use Rattle.scenario.specs.declared.line.Line.{Line}
-use Rattle.scenario.specs.Texts.{mode_text, line_text, written}
-use Rattle.scenario.specs.Words.{with_first, lines_of, numeral, signed_numeral}
-use Rattle.scenario.specs.Grammar.{last_at, form_of, form_text}
+use Rattle.scenario.specs.Texts.{mode_text, line_text, rule_text, written}
+use Rattle.set_model.specs.Stamp.{pico_text}
+use Rattle.scenario.specs.Words.{with_first, lines_of, spaced_after, numeral, signed_numeral, stamp_numeral}
+use Rattle.scenario.specs.Grammar.{last_at, as_written, form_of, form_text, rule_words, written_as, written_form, written_pico}
 use Rattle.scenario.specs.Past.{servers_of, items_of, servers_in, items_in, has_ended}
-use Rattle.scenario.specs.Faults.{is_within, fits_value, fault_of, line_of, judged}
+use Rattle.scenario.specs.Faults.{is_within, fits_value, pico_of, fault_of, line_of, judged}
 use Rattle.scenario.specs.Scenario.{kind_at_end, valid_from, scenario_of}
 use Rattle.scenario.specs.Valid.{AllAllowed}
 use Rattle.scenario.proofs.FaultLemmas.{Passes, taken, within_range, verdict_ok}
 use Rattle.scenario.proofs.NumeralLemmas.{numeral-decimal, signed_numeral-decimal}
-use Rattle.scenario.proofs.GrammarLemmas.{form_text-form_of}
+use Rattle.scenario.proofs.ReadLemmas.{IsRead, AllRead, read_by_form, line_of-written, fault-written, lines_of-written, read_written}
 use Rattle.scenario.proofs.ValidLemmas.{ended_ok, go_on_ok}
 
 -- words with spaces between them, joined from either side
@@ -31,37 +32,57 @@ join3 a b c =
     ∙ ap (λ r. a ++ (32 ∷ (b ++ (32 ∷ r)))) (sym (append-nil c))
 
 -- the set is small enough that its numbers are printed as they are spelled
-record Small (before : List Line) : Type 0 where
-  servers : servers_in before < 2 ^ 64
-  items : items_in before < 2 ^ 64
+pub record Small (before : List Line) : Type 0 where
+  pub servers : servers_in before < 2 ^ 64
+  pub items : items_in before < 2 ^ 64
 
--- a line that was taken is printed as its form is spelled
-text_of : (pool : ℕ) (before : List Line) (f : Form) → Small before → Passes pool before f → line_text (line_of f) ≡ form_text f
+joined_after : (a q b c : List ℕ) → ((a ++ q) ++ b) ++ c ≡ a ++ (q ++ (b ++ c))
+joined_after a q b c = append_assoc (a ++ q) b c ∙ append_assoc a q (b ++ c)
+
+rule_written : (oldest : Bool) → rule_text oldest ≡ spaced_after (rule_words oldest)
+rule_written true = refl
+rule_written false = refl
+
+stamp_case : (time pico : ℕ) (b : Bool) → time < 2 ^ 64 → pico < 2 ^ 64 → decimal time ++ cond b [] (46 ∷ decimal pico) ≡ stamp_numeral time (cond b None (Some pico))
+stamp_case time pico true small few = append-nil (decimal time) ∙ sym (numeral-decimal time small)
+stamp_case time pico false small few =
+    ap (λ d. d ++ 46 ∷ decimal pico) (sym (numeral-decimal time small)) ∙ ap (λ d. numeral time ++ 46 ∷ d) (sym (numeral-decimal pico few))
+
+-- a stamp is printed as it is spelled without picoseconds of 0
+stamp_written : (time : ℕ) (pico : Option ℕ) → time < 2 ^ 64 → pico_of pico < 2 ^ 64 → decimal time ++ pico_text (pico_of pico) ≡ stamp_numeral time (written_pico pico)
+stamp_written time None small few = append-nil (decimal time) ∙ sym (numeral-decimal time small)
+stamp_written time (Some pico) small few = stamp_case time pico (pico == 0) small few
+
+-- a line that was taken is printed as its form is spelled, without picoseconds of 0
+pub text_of : (pool : ℕ) (before : List Line) (f : Form) → Small before → Passes pool before f → line_text (line_of f) ≡ form_text (written_form f)
 text_of pool before (form.Set mode servers) small p =
     let w = within_range 1 8 servers p.range in
     let n : servers < 2 ^ 64 = omega arith in
     ap (λ d. codes "set " ++ mode_text mode ++ codes " " ++ d) (sym (numeral-decimal servers n)) ∙ ap (λ r. codes "set " ++ r) (join2 (mode_text mode) (numeral servers))
-text_of pool before (form.Items items queue) small p =
+text_of pool before (form.Items items queue oldest) small p =
     let parts = and_parts (is_within 1 64 items) (is_within 2 1000 queue) p.range in
     let a = within_range 1 64 items parts.0 in
     let b = within_range 2 1000 queue parts.1 in
     let m : items < 2 ^ 64 = omega arith in
     let n : queue < 2 ^ 64 = omega arith in
-    ap (λ d. codes "items " ++ d ++ codes " queue " ++ decimal queue) (sym (numeral-decimal items m))
-    ∙ ap (λ d. codes "items " ++ numeral items ++ codes " queue " ++ d) (sym (numeral-decimal queue n))
-    ∙ ap (λ r. codes "items " ++ r) (append_assoc (numeral items) (codes " queue ") (numeral queue))
-    ∙ ap (λ r. codes "items " ++ (numeral items ++ (codes " queue " ++ r))) (sym (append-nil (numeral queue)))
-text_of pool before (form.Change item time value) small p =
-    let parts = and_parts (is_within 1 (10 ^ 18) time) (fits_value value) p.range in
-    let a = within_range 1 (10 ^ 18) time parts.0 in
+    ap (λ d. codes "items " ++ d ++ codes " queue " ++ decimal queue ++ rule_text oldest) (sym (numeral-decimal items m))
+    ∙ ap (λ d. codes "items " ++ numeral items ++ codes " queue " ++ d ++ rule_text oldest) (sym (numeral-decimal queue n))
+    ∙ ap (λ r. codes "items " ++ numeral items ++ codes " queue " ++ numeral queue ++ r) (rule_written oldest)
+    ∙ ap (λ r. codes "items " ++ r) (joined_after (numeral items) (codes " queue ") (numeral queue) (spaced_after (rule_words oldest)))
+text_of pool before (form.Change item time pico value) small p =
+    let parts = and_parts (is_within 1 (10 ^ 18) time && is_within 0 9999 (pico_of pico)) (fits_value value) p.range in
+    let stamp = and_parts (is_within 1 (10 ^ 18) time) (is_within 0 9999 (pico_of pico)) parts.0 in
+    let a = within_range 1 (10 ^ 18) time stamp.0 in
+    let b = within_range 0 9999 (pico_of pico) stamp.1 in
+    let k : pico_of pico < 2 ^ 64 = omega arith in
     let i = within_range 1 (items_in before) item p.item in
     let few : items_in before < 2 ^ 64 = small.items in
     let m : item < 2 ^ 64 = omega arith in
     let n : time < 2 ^ 64 = omega arith in
-    ap (λ d. codes "change " ++ d ++ codes " " ++ decimal time ++ codes " " ++ signed_decimal value) (sym (numeral-decimal item m))
-    ∙ ap (λ d. codes "change " ++ numeral item ++ codes " " ++ d ++ codes " " ++ signed_decimal value) (sym (numeral-decimal time n))
-    ∙ ap (λ d. codes "change " ++ numeral item ++ codes " " ++ numeral time ++ codes " " ++ d) (sym (signed_numeral-decimal value parts.1))
-    ∙ ap (λ r. codes "change " ++ r) (join3 (numeral item) (numeral time) (signed_numeral value))
+    ap (λ d. codes "change " ++ d ++ codes " " ++ (decimal time ++ pico_text (pico_of pico)) ++ codes " " ++ signed_decimal value) (sym (numeral-decimal item m))
+    ∙ ap (λ d. codes "change " ++ numeral item ++ codes " " ++ d ++ codes " " ++ signed_decimal value) (stamp_written time pico n k)
+    ∙ ap (λ d. codes "change " ++ numeral item ++ codes " " ++ stamp_numeral time (written_pico pico) ++ codes " " ++ d) (sym (signed_numeral-decimal value parts.1))
+    ∙ ap (λ r. codes "change " ++ r) (join3 (numeral item) (stamp_numeral time (written_pico pico)) (signed_numeral value))
 text_of pool before (form.Feed server count) small p =
     let a = within_range 1 200000 count p.range in
     let s = within_range 1 (servers_in before) server p.server in
@@ -113,10 +134,10 @@ items_either (m ∷ (n ∷ ls)) l = inl refl
 
 few_of : (pool : ℕ) (before : List Line) (f : Form) → Passes pool before f → (servers_of (line_of f) < 2 ^ 64) × (items_of (line_of f) < 2 ^ 64)
 few_of pool before (form.Set mode servers) p = let w = within_range 1 8 servers p.range in (omega arith, omega arith)
-few_of pool before (form.Items items queue) p =
+few_of pool before (form.Items items queue oldest) p =
     let parts = and_parts (is_within 1 64 items) (is_within 2 1000 queue) p.range in
     let a = within_range 1 64 items parts.0 in (omega arith, omega arith)
-few_of pool before (form.Change item time value) p = (omega arith, omega arith)
+few_of pool before (form.Change item time pico value) p = (omega arith, omega arith)
 few_of pool before (form.Feed server count) p = (omega arith, omega arith)
 few_of pool before (form.Take server count) p = (omega arith, omega arith)
 few_of pool before (form.Stop server) p = (omega arith, omega arith)
@@ -125,7 +146,7 @@ few_of pool before (form.Listen item) p = (omega arith, omega arith)
 few_of pool before (form.Unlisten id) p = (omega arith, omega arith)
 few_of pool before form.End p = (omega arith, omega arith)
 
-small_more : (before : List Line) (l : Line) → Small before → (servers_of l < 2 ^ 64) × (items_of l < 2 ^ 64) → Small (before ++ l ∷ [])
+pub small_more : (before : List Line) (l : Line) → Small before → (servers_of l < 2 ^ 64) × (items_of l < 2 ^ 64) → Small (before ++ l ∷ [])
 small_more before l small few =
     let s : servers_in before < 2 ^ 64 = small.servers in
     let i : items_in before < 2 ^ 64 = small.items in
@@ -140,24 +161,29 @@ small_more before l small few =
 record Spelled (pool : ℕ) (before lines : List Line) (texts : List (List ℕ)) : Type 0 where
   more : List Line
   lines_are : lines ≡ before ++ more
-  texts_are : texts ≡ map line_text more
-  allowed : AllAllowed pool before more
+  texts_are : map as_written texts ≡ map line_text more
+  read : AllRead pool before more
+  at_end : has_ended lines ≡ true
 
 spelled : (pool : ℕ) (before : List Line) (texts : List (List ℕ)) (lines : List Line) → Small before → valid_from pool before texts ≡ Ok lines → Spelled pool before lines texts
 spelled pool before [] lines small h =
     let e = ended_ok (has_ended before) before lines (record { line = length before + 1; kind = kind_at_end before }) refl h in
-    record { more = []; lines_are = sym e.1 ∙ sym (append-nil before); texts_are = refl; allowed = tt }
+    record { more = []; lines_are = sym e.1 ∙ sym (append-nil before); texts_are = refl; read = tt; at_end = ap has_ended (sym e.1) ∙ e.0 }
 spelled pool before (text ∷ texts) lines small h =
     let g = go_on_ok before lines (λ l. valid_from pool (before ++ l ∷ []) texts) (judged pool before text) h in
     let t = taken pool before text g.0 g.1 in
     let P : Line → Type 0 = λ l. (servers_of l < 2 ^ 64) × (items_of l < 2 ^ 64) in
     let s = spelled pool (before ++ g.0 ∷ []) texts lines (small_more before g.0 small (subst P t.line_is (few_of pool before t.f t.passes))) g.2 in
-    let same : text ≡ line_text g.0 = sym (form_text-form_of text t.f t.is) ∙ sym (text_of pool before t.f small t.passes) ∙ ap line_text t.line_is in
+    let printed : line_text g.0 ≡ form_text (written_form t.f) = ap line_text (sym t.line_is) ∙ text_of pool before t.f small t.passes in
+    let same : as_written text ≡ line_text g.0 = ap (written_as text) t.is ∙ sym printed in
+    let read : IsRead pool before g.0 =
+    read_by_form pool before (written_form t.f) g.0 t.few (fault-written pool before t.f ∙ t.sound) (line_of-written t.f ∙ t.line_is) printed in
     record {
       more = g.0 ∷ s.more;
       lines_are = s.lines_are ∙ append_assoc before (g.0 ∷ []) s.more;
-      texts_are = ap (λ first. first ∷ texts) same ∙ ap (λ rest. line_text g.0 ∷ rest) s.texts_are;
-      allowed = (ap (fault_of pool before) (sym same) ∙ (verdict_ok (fault_of pool before text) (form_of text) g.0 g.1).0, s.allowed);
+      texts_are = ap (λ first. first ∷ map as_written texts) same ∙ ap (λ rest. line_text g.0 ∷ rest) s.texts_are;
+      read = (read, s.read);
+      at_end = s.at_end;
     }
 
 -- texts, each with a line feed
@@ -214,30 +240,46 @@ joined-lines_of : (bytes : List ℕ) → (joined (lines_of bytes) ≡ bytes) ⊎
 joined-lines_of [] = inl refl
 joined-lines_of (b ∷ rest) = join_case b rest (b == 10) refl (joined-lines_of rest)
 
-written_is : (pool : ℕ) (bytes : List ℕ) (lines : List Line) → scenario_of pool bytes ≡ Ok lines → joined (lines_of bytes) ≡ written lines
-written_is pool bytes lines h =
-    let s = spelled pool [] (lines_of bytes) lines (record { servers = omega arith; items = omega arith }) h in
-    ap joined s.texts_are ∙ joined-texts s.more ∙ ap written (sym s.lines_are)
+spelled_all : (pool : ℕ) (bytes : List ℕ) (lines : List Line) → scenario_of pool bytes ≡ Ok lines → Spelled pool [] lines (lines_of bytes)
+spelled_all pool bytes lines h = spelled pool [] (lines_of bytes) lines (record { servers = omega arith; items = omega arith }) h
 
--- what was read is what would be written, but for the last line feed
-pub written_again : (pool : ℕ) (bytes : List ℕ) (lines : List Line) → scenario_of pool bytes ≡ Ok lines → (bytes ≡ written lines) ⊎ (bytes ++ 10 ∷ [] ≡ written lines)
-written_again pool bytes lines h =
+all_read : (pool : ℕ) (bytes : List ℕ) (lines : List Line) → scenario_of pool bytes ≡ Ok lines → AllRead pool [] lines
+all_read pool bytes lines h =
+    let s = spelled_all pool bytes lines h in
+    let P : List Line → Type 0 = λ all. AllRead pool [] all in
+    subst P (sym s.lines_are) s.read
+
+-- line by line, what is written is what was read, without picoseconds of 0
+pub written_lines : (pool : ℕ) (bytes : List ℕ) (lines : List Line) → scenario_of pool bytes ≡ Ok lines → lines_of (written lines) ≡ map as_written (lines_of bytes)
+written_lines pool bytes lines h =
+    let s = spelled_all pool bytes lines h in
+    lines_of-written pool [] lines (all_read pool bytes lines h) ∙ ap (map line_text) s.lines_are ∙ sym s.texts_are
+
+written_is : (pool : ℕ) (bytes : List ℕ) (lines : List Line) → scenario_of pool bytes ≡ Ok lines → map as_written (lines_of bytes) ≡ lines_of bytes
+    → joined (lines_of bytes) ≡ written lines
+written_is pool bytes lines h plain =
+    let s = spelled_all pool bytes lines h in
+    ap joined (sym plain ∙ s.texts_are) ∙ joined-texts s.more ∙ ap written (sym s.lines_are)
+
+-- what was read is what would be written, but for the last line feed, where no line says picoseconds of 0
+pub written_again : (pool : ℕ) (bytes : List ℕ) (lines : List Line) → scenario_of pool bytes ≡ Ok lines → map as_written (lines_of bytes) ≡ lines_of bytes
+    → (bytes ≡ written lines) ⊎ (bytes ++ 10 ∷ [] ≡ written lines)
+written_again pool bytes lines h plain =
     elim (joined-lines_of bytes) [
-      | inl e ↦ inl (sym e ∙ written_is pool bytes lines h)
-      | inr l ↦ inr (sym l.joined_is ∙ written_is pool bytes lines h)
+      | inl e ↦ inl (sym e ∙ written_is pool bytes lines h plain)
+      | inr l ↦ inr (sym l.joined_is ∙ written_is pool bytes lines h plain)
     ]
 
 -- what is written of a scenario is read as the same lines
 pub reads_again : (pool : ℕ) (bytes : List ℕ) (lines : List Line) → scenario_of pool bytes ≡ Ok lines → scenario_of pool (written lines) ≡ Ok lines
-reads_again pool bytes lines h =
-    elim (joined-lines_of bytes) [
-      | inl e ↦ ap (scenario_of pool) (sym (written_is pool bytes lines h) ∙ e) ∙ h
-      | inr l ↦ ap (valid_from pool []) (ap lines_of (sym (written_is pool bytes lines h) ∙ l.joined_is) ∙ l.same_lines) ∙ h
-    ]
+reads_again pool bytes lines h = read_written pool lines (all_read pool bytes lines h) (spelled_all pool bytes lines h).at_end
+
+-- nothing is wrong with a line that is read
+none_wrong : (pool : ℕ) (before ls : List Line) → AllRead pool before ls → AllAllowed pool before ls
+none_wrong pool before [] h = tt
+none_wrong pool before (l ∷ ls) h =
+    ((verdict_ok (fault_of pool before (line_text l)) (form_of (line_text l)) l h.0.again).0, none_wrong pool (before ++ l ∷ []) ls h.1)
 
 -- nothing is wrong with any line of a valid text after those before it
 pub all_allowed : (pool : ℕ) (bytes : List ℕ) (lines : List Line) → scenario_of pool bytes ≡ Ok lines → AllAllowed pool [] lines
-all_allowed pool bytes lines h =
-    let s = spelled pool [] (lines_of bytes) lines (record { servers = omega arith; items = omega arith }) h in
-    let P : List Line → Type 0 = λ all. AllAllowed pool [] all in
-    subst P (sym s.lines_are) s.allowed
+all_allowed pool bytes lines h = none_wrong pool [] lines (all_read pool bytes lines h)

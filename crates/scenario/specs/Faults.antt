@@ -14,7 +14,6 @@ use Rattle.scenario.specs.declared.line.Line.{Line}
 use Rattle.scenario.specs.declared.line.Line.TheVariants as line
 use Rattle.scenario.specs.declared.fault.FaultKind.{FaultKind}
 use Rattle.scenario.specs.declared.fault.FaultKind.TheVariants as kind
-use Rattle.scenario.specs.declared.reader.TheConstants.{MOST_LINES}
 use Rattle.scenario.specs.Words.{words_of}
 use Rattle.scenario.specs.Grammar.{form_of}
 use Rattle.scenario.specs.Past.{servers_in, items_in, changes_in, is_running, boot_of, has_ended, listens_in, attached_in}
@@ -35,7 +34,7 @@ is_set (form.Set mode servers) = true
 is_set _ = false
 
 abbrev pub is_items : Form → Bool
-is_items (form.Items items queue) = true
+is_items (form.Items items queue oldest) = true
 is_items _ = false
 
 -- BadLine, for a line with a form: `set` stands first alone, `items` second alone, and nothing after `end`
@@ -53,11 +52,16 @@ abbrev pub fits_value : ℤ → Bool
 fits_value (pos number) = nat_lt number (2 ^ 63)
 fits_value (negsuc below) = nat_lt below (2 ^ 63)
 
+-- picoseconds in steps of ten, within the 100 ns of a time; where none are said they are 0
+abbrev pub pico_of : Option ℕ → ℕ
+pico_of None = 0
+pico_of (Some pico) = pico
+
 -- OutOfRange
 abbrev pub is_in_range : Form → Bool
 is_in_range (form.Set mode servers) = is_within 1 8 servers
-is_in_range (form.Items items queue) = is_within 1 64 items && is_within 2 1000 queue
-is_in_range (form.Change item time value) = is_within 1 (10 ^ 18) time && fits_value value
+is_in_range (form.Items items queue oldest) = is_within 1 64 items && is_within 2 1000 queue
+is_in_range (form.Change item time pico value) = is_within 1 (10 ^ 18) time && is_within 0 9999 (pico_of pico) && fits_value value
 is_in_range (form.Feed server count) = is_within 1 200000 count
 is_in_range (form.Take server count) = is_within 1 1000 count
 is_in_range (form.Unlisten id) = is_within 1 255 id
@@ -88,7 +92,7 @@ has_item before item = is_within 1 (items_in before) item
 
 -- NoSuchItem
 abbrev pub has_its_item : List Line → Form → Bool
-has_its_item before (form.Change item time value) = has_item before item
+has_its_item before (form.Change item time pico value) = has_item before item
 has_its_item before (form.Listen item) = has_item before item
 has_its_item before _ = true
 
@@ -109,8 +113,8 @@ abbrev pub starts_too_often : List Line → Form → Bool
 starts_too_often before (form.Start server) = nat_le 65535 (boot_of server before)
 starts_too_often before _ = false
 
-abbrev pub the_change : ℕ → ℕ → ℤ → Change
-the_change item time value = record { item = item; time = pos time; value = value }
+abbrev pub the_change : ℕ → ℕ → Option ℕ → ℤ → Change
+the_change item time pico value = record { item = item; time = pos time; pico = pico_of pico; value = value }
 
 -- TooMany, TimeNotRising and SameValue, by why the source refuses a change
 abbrev pub kind_of_refusal : Option SourceFault → Option FaultKind
@@ -120,7 +124,7 @@ kind_of_refusal (Some source.SameValue) = Some kind.SameValue
 kind_of_refusal _ = None
 
 abbrev pub source_fault : List Line → Form → Option FaultKind
-source_fault before (form.Change item time value) = kind_of_refusal (refusal (changes_in before) (the_change item time value))
+source_fault before (form.Change item time pico value) = kind_of_refusal (refusal (changes_in before) (the_change item time pico value))
 source_fault before _ = None
 
 -- NoListener
@@ -175,7 +179,7 @@ any_form_fault pool before (Some f) = form_fault pool before f
 abbrev pub fault_with : ℕ → List Line → List ℕ → Option Form → Option FaultKind
 fault_with pool before text its_form =
     if misses_set (length before) (words_of text) then Some kind.MissingSet
-    else if nat_le MOST_LINES (length before) then Some kind.TooLong
+    else if nat_le 1000000 (length before) then Some kind.TooLong
     else any_form_fault pool before its_form
 
 -- what is wrong with the text of a line
@@ -185,8 +189,8 @@ fault_of pool before text = fault_with pool before text (form_of text)
 -- the line of a form with which nothing is wrong
 abbrev pub line_of : Form → Line
 line_of (form.Set mode servers) = line.Set mode servers
-line_of (form.Items items queue) = line.Items items queue
-line_of (form.Change item time value) = line.Change (the_change item time value)
+line_of (form.Items items queue oldest) = line.Items items queue oldest
+line_of (form.Change item time pico value) = line.Change (the_change item time pico value)
 line_of (form.Feed server count) = line.Feed server count
 line_of (form.Take server count) = line.Take server count
 line_of (form.Stop server) = line.Stop server

@@ -1,18 +1,23 @@
 -- The forms of a line: what each says, and its exact spelling.
-use Rattle.std.specs.Prelude.{ℕ, ℤ, List, [], ◌∷◌, Option, Some, None, codes, if◌then◌else◌}
+use Rattle.std.specs.Prelude.{◌==◌, ℕ, ℤ, List, [], ◌∷◌, Bool, true, false, Option, Some, None, codes, if◌then◌else◌}
 use Rattle.std.specs.Str.{bytes_eq}
 use Rattle.ua_base.specs.declared.modes.SetMode.{SetMode}
 use Rattle.ua_base.specs.declared.modes.SetMode.TheVariants.{Direct, Hot, Warm, Cold}
 use Rattle.scenario.specs.declared.form.Form.{Form}
 use Rattle.scenario.specs.declared.form.Form.TheVariants as form
 use Rattle.scenario.specs.Texts.{mode_text}
-use Rattle.scenario.specs.Words.{◌>>=◌, words_of, spaced, numeral, signed_numeral, number_by, integer_by, capped}
+use Rattle.scenario.specs.Words.{◌>>=◌, words_of, spaced, numeral, stamp_numeral, signed_numeral, number_by, stamp_by, integer_by, capped}
+
+-- what a queue drops where it is full: its oldest entry, unless it is said that it is the newest
+abbrev pub rule_words : Bool → List (List ℕ)
+rule_words true = []
+rule_words false = codes "discard" ∷ codes "newest" ∷ []
 
 -- the words of a form
 abbrev pub form_words : Form → List (List ℕ)
 form_words (form.Set mode servers) = codes "set" ∷ mode_text mode ∷ numeral servers ∷ []
-form_words (form.Items items queue) = codes "items" ∷ numeral items ∷ codes "queue" ∷ numeral queue ∷ []
-form_words (form.Change item time value) = codes "change" ∷ numeral item ∷ numeral time ∷ signed_numeral value ∷ []
+form_words (form.Items items queue oldest) = codes "items" ∷ numeral items ∷ codes "queue" ∷ numeral queue ∷ rule_words oldest
+form_words (form.Change item time pico value) = codes "change" ∷ numeral item ∷ stamp_numeral time pico ∷ signed_numeral value ∷ []
 form_words (form.Feed server count) = codes "feed" ∷ numeral server ∷ numeral count ∷ []
 form_words (form.Take server count) = codes "take" ∷ numeral server ∷ numeral count ∷ []
 form_words (form.Stop server) = codes "stop" ∷ numeral server ∷ []
@@ -40,6 +45,12 @@ number_at cap words = do
   first ← word_at words
   number ← number_by cap first.0
   Some (number, first.1)
+
+abbrev pub stamp_at : (ℕ → ℕ) → List (List ℕ) → Option ((ℕ × Option ℕ) × List (List ℕ))
+stamp_at cap words = do
+  first ← word_at words
+  stamp ← stamp_by cap first.0
+  Some (stamp, first.1)
 
 abbrev pub integer_at : (ℕ → ℕ) → List (List ℕ) → Option (ℤ × List (List ℕ))
 integer_at cap words = do
@@ -81,25 +92,39 @@ set_form cap words = do
   servers ← one_number cap mode.1
   Some (form.Set mode.0 servers)
 
-abbrev pub queue_at : List (List ℕ) → Option (List (List ℕ))
-queue_at words = do
+-- what follows this word
+abbrev pub name_at : List ℕ → List (List ℕ) → Option (List (List ℕ))
+name_at name words = do
   first ← word_at words
-  if bytes_eq first.0 (codes "queue") then Some first.1 else None
+  if bytes_eq first.0 name then Some first.1 else None
+
+abbrev pub newest_at : List (List ℕ) → Option Bool
+newest_at words = do
+  rest ← name_at (codes "discard") words
+  more ← name_at (codes "newest") rest
+  _ ← last_at more
+  Some false
+
+-- whether the oldest entry is dropped
+abbrev pub rule_at : List (List ℕ) → Option Bool
+rule_at [] = Some true
+rule_at (word ∷ words) = newest_at (word ∷ words)
 
 abbrev pub items_form : (ℕ → ℕ) → List (List ℕ) → Option Form
 items_form cap words = do
   items ← number_at cap words
-  rest ← queue_at items.1
-  queue ← one_number cap rest
-  Some (form.Items items.0 queue)
+  rest ← name_at (codes "queue") items.1
+  queue ← number_at cap rest
+  oldest ← rule_at queue.1
+  Some (form.Items items.0 queue.0 oldest)
 
 abbrev pub change_form : (ℕ → ℕ) → List (List ℕ) → Option Form
 change_form cap words = do
   item ← number_at cap words
-  time ← number_at cap item.1
-  value ← integer_at cap time.1
+  stamp ← stamp_at cap item.1
+  value ← integer_at cap stamp.1
   _ ← last_at value.1
-  Some (form.Change item.0 time.0 value.0)
+  Some (form.Change item.0 stamp.0.0 stamp.0.1 value.0)
 
 -- the form after its first word; numbers are read through `cap`
 abbrev pub form_after : (ℕ → ℕ) → List ℕ → List (List ℕ) → Option Form
@@ -116,6 +141,16 @@ form_after cap keyword words =
     else if bytes_eq keyword (codes "end") then (last_at words >>= λ _. Some form.End)
     else None
 
+-- picoseconds of 0 are not written
+abbrev pub written_pico : Option ℕ → Option ℕ
+written_pico None = None
+written_pico (Some pico) = if pico == 0 then None else Some pico
+
+-- a form as it is written: without picoseconds of 0
+abbrev pub written_form : Form → Form
+written_form (form.Change item time pico value) = form.Change item time (written_pico pico) value
+written_form f = f
+
 abbrev pub form_by : (ℕ → ℕ) → List (List ℕ) → Option Form
 form_by cap words = do
   first ← word_at words
@@ -124,6 +159,14 @@ form_by cap words = do
 -- the form that a text is the spelling of
 abbrev pub form_of : List ℕ → Option Form
 form_of text = form_by (λ number. number) (words_of text)
+
+abbrev pub written_as : List ℕ → Option Form → List ℕ
+written_as text None = text
+written_as text (Some f) = form_text (written_form f)
+
+-- a line's text as it is written: without picoseconds of 0
+abbrev pub as_written : List ℕ → List ℕ
+as_written text = written_as text (form_of text)
 
 -- the form as it is read: each number as if the largest were 2^64 - 1
 abbrev pub form_read : List ℕ → Option Form

@@ -12,7 +12,7 @@ servers_of _ = 0
 
 -- how many items a second line says
 abbrev pub items_of : Line → ℕ
-items_of (line.Items items queue) = items
+items_of (line.Items items queue oldest) = items
 items_of _ = 0
 
 abbrev pub servers_in : List Line → ℕ

@@ -1,6 +1,5 @@
 -- What a reader recalls of the lines before, so that no line needs to be looked at again.
 use Rattle.std.specs.Prelude.{◌≡◌, ℕ, ◌+◌, ◌-◌, ◌<◌, ◌≤◌, List, [], ◌∷◌, ◌++◌, true, false, Result, Ok, Err, length, slice_index_or, slice_set, replicate}
-use Rattle.set_model.specs.declared.source.TheConstants.{MOST_CHANGES}
 use Rattle.set_model.specs.Source.{End, IsEndOf}
 use Rattle.scenario.specs.declared.line.Line.{Line}
 use Rattle.scenario.specs.declared.line.Line.TheVariants as line
@@ -30,7 +29,7 @@ blank_tally = record { servers = 0; items = 0; lives = replicate 8 fresh; listen
 -- what is recalled after one line more
 abbrev pub tally_after : Tally → Line → Tally
 tally_after tally (line.Set mode servers) = record tally { servers = servers }
-tally_after tally (line.Items items queue) = record tally { items = items }
+tally_after tally (line.Items items queue oldest) = record tally { items = items }
 tally_after tally (line.Stop server) = with_life tally server (record { running = false; boot = (life_in tally server).boot })
 tally_after tally (line.Start server) = with_life tally server (record { running = true; boot = (life_in tally server).boot + 1 })
 tally_after tally (line.Listen item) = record tally { listens = tally.listens + 1 }
@@ -46,7 +45,7 @@ HasRoom tally _ = Unit {0}
 
 -- the end of the source has room for the line
 abbrev pub EndHasRoom : End → Line → Type 0
-EndHasRoom end (line.Change change) = end.count < MOST_CHANGES
+EndHasRoom end (line.Change change) = end.count < 200000
 EndHasRoom end _ = Unit {0}
 
 -- what is recalled is what the lines say
@@ -64,8 +63,8 @@ pub record Recalls (lines : List Line) (end : End) (tally : Tally) (attached : L
 -- a line that may follow these
 abbrev pub MayFollow : List Line → Line → Type 0
 MayFollow lines (line.Set mode servers) = (length lines ≡ 0) × (servers ≤ 8)
-MayFollow lines (line.Items items queue) = (length lines ≡ 1) × (items ≤ 64)
-MayFollow lines (line.Change change) = length (changes_in lines) < MOST_CHANGES
+MayFollow lines (line.Items items queue oldest) = (length lines ≡ 1) × (items ≤ 64)
+MayFollow lines (line.Change change) = length (changes_in lines) < 200000
 MayFollow lines (line.Stop server) = (1 ≤ server) × (server ≤ servers_in lines)
 MayFollow lines (line.Start server) = (1 ≤ server) × (server ≤ servers_in lines) × (boot_of server lines < 65535)
 MayFollow lines (line.Listen item) = listens_in lines < 255

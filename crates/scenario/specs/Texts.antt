@@ -1,10 +1,12 @@
 -- The exact texts of lines and faults.
-use Rattle.std.specs.Prelude.{ℕ, List, ◌++◌, codes}
+use Rattle.std.specs.Prelude.{ℕ, List, [], ◌++◌, Bool, true, false, codes}
 use Rattle.std.specs.List.{flat_map}
 use Rattle.std.specs.Fmt.{decimal, signed_decimal}
 use Rattle.ua_base.specs.declared.modes.SetMode.{SetMode}
 use Rattle.ua_base.specs.declared.modes.SetMode.TheVariants.{Direct, Hot, Warm, Cold}
 use Rattle.set_model.specs.declared.source.Change.{Change}
+use Rattle.set_model.specs.Source.{stamp_of}
+use Rattle.set_model.specs.Stamp.{stamp_text}
 use Rattle.scenario.specs.declared.line.Line.{Line}
 use Rattle.scenario.specs.declared.line.Line.TheVariants as line
 use Rattle.scenario.specs.declared.fault.FaultKind.{FaultKind}
@@ -18,12 +20,17 @@ mode_text Warm = codes "warm"
 mode_text Cold = codes "cold"
 
 abbrev pub change_text : Change → List ℕ
-change_text change = codes "change " ++ decimal change.item ++ codes " " ++ signed_decimal change.time ++ codes " " ++ signed_decimal change.value
+change_text change = codes "change " ++ decimal change.item ++ codes " " ++ stamp_text (stamp_of change) ++ codes " " ++ signed_decimal change.value
+
+-- which entry a full queue drops, where it isn't the oldest
+abbrev pub rule_text : Bool → List ℕ
+rule_text true = []
+rule_text false = codes " discard newest"
 
 -- a line without its line feed
 abbrev pub line_text : Line → List ℕ
 line_text (line.Set mode servers) = codes "set " ++ mode_text mode ++ codes " " ++ decimal servers
-line_text (line.Items items queue) = codes "items " ++ decimal items ++ codes " queue " ++ decimal queue
+line_text (line.Items items queue oldest) = codes "items " ++ decimal items ++ codes " queue " ++ decimal queue ++ rule_text oldest
 line_text (line.Change change) = change_text change
 line_text (line.Feed server count) = codes "feed " ++ decimal server ++ codes " " ++ decimal count
 line_text (line.Take server count) = codes "take " ++ decimal server ++ codes " " ++ decimal count

@@ -1,7 +1,6 @@
 -- What the lines of a scenario are, said of the lines alone.
-use Rattle.std.specs.Prelude.{◌≡◌, None, ℕ, ◌≤◌, List, [], ◌∷◌, ◌++◌, length}
+use Rattle.std.specs.Prelude.{◌≡◌, None, ℕ, ◌≤◌, List, [], ◌∷◌, ◌++◌, Bool, length}
 use Rattle.ua_base.specs.declared.modes.SetMode.TheVariants.{Direct}
-use Rattle.set_model.specs.declared.source.TheConstants.{MOST_CHANGES}
 use Rattle.set_model.specs.Source.{IsSource}
 use Rattle.scenario.specs.declared.line.Line.{Line}
 use Rattle.scenario.specs.declared.line.Line.TheVariants as line
@@ -15,7 +14,7 @@ IsFrom low high number = (low ≤ number) × (number ≤ high)
 -- a line between the second and the last, of a set with so many servers and items
 abbrev pub Fits : ℕ → ℕ → Line → Type 0
 Fits servers items (line.Set mode count) = ⊥
-Fits servers items (line.Items count queue) = ⊥
+Fits servers items (line.Items count queue oldest) = ⊥
 Fits servers items (line.Change change) = IsFrom 1 items change.item
 Fits servers items (line.Feed server count) = IsFrom 1 servers server × IsFrom 1 200000 count
 Fits servers items (line.Take server count) = IsFrom 1 servers server × IsFrom 1 1000 count
@@ -34,14 +33,15 @@ pub record IsScenario (pool : ℕ) (lines : List Line) : Type 0 where
   pub servers : ℕ
   pub items : ℕ
   pub queue : ℕ
+  pub oldest : Bool
   pub body : List Line
-  pub lines_are : lines ≡ line.Set Direct servers ∷ (line.Items items queue ∷ (body ++ line.End ∷ []))
+  pub lines_are : lines ≡ line.Set Direct servers ∷ (line.Items items queue oldest ∷ (body ++ line.End ∷ []))
   pub servers_fit : IsFrom 1 8 servers
   pub items_fit : IsFrom 1 64 items
   pub queue_fits : IsFrom 2 1000 queue
   pub body_fits : AllFit servers items body
   pub source : IsSource (changes_in lines)
-  pub few_changes : length (changes_in lines) ≤ MOST_CHANGES
+  pub few_changes : length (changes_in lines) ≤ 200000
   pub few_lines : length lines ≤ 1000000
   pub few_listens : listens_in lines ≤ pool
   pub few_boots : (server : ℕ) → boot_of server lines ≤ 65535

@@ -43,6 +43,11 @@ abbrev pub spaced : List (List ℕ) → List ℕ
 spaced [] = []
 spaced (word ∷ words) = word ++ spaced_after words
 
+-- what stands before the first dot of a word, and what behind it, if it has one
+abbrev pub dotted : List ℕ → List ℕ × Option (List ℕ)
+dotted [] = ([], None)
+dotted (byte ∷ rest) = if byte == 46 then ([], Some rest) else (byte ∷ (dotted rest).0, (dotted rest).1)
+
 -- a number's decimal digits, with no zero before them
 abbrev pub numeral : ℕ → List ℕ
 numeral number = if number == 0 then codes "0" else map (λ digit. 48 + digit) (digits_of 10 number)
@@ -50,6 +55,11 @@ numeral number = if number == 0 then codes "0" else map (λ digit. 48 + digit) (
 abbrev pub signed_numeral : ℤ → List ℕ
 signed_numeral (pos number) = numeral number
 signed_numeral (negsuc below) = 45 ∷ numeral (suc below)
+
+-- a time's numeral, and behind a dot that of its picoseconds, if they are said
+abbrev pub stamp_numeral : ℕ → Option ℕ → List ℕ
+stamp_numeral time None = numeral time
+stamp_numeral time (Some pico) = numeral time ++ 46 ∷ numeral pico
 
 -- the number that goes on with these digits
 abbrev pub digits_from : ℕ → List ℕ → Option ℕ
@@ -75,6 +85,15 @@ read_by cap number = number >>= λ n. Some (cap n)
 
 abbrev pub number_by : (ℕ → ℕ) → List ℕ → Option ℕ
 number_by cap word = read_by cap (number_of word)
+
+-- the picoseconds that are said behind a dot, if there is one
+abbrev pub pico_by : (ℕ → ℕ) → Option (List ℕ) → Option (Option ℕ)
+pico_by cap None = Some None
+pico_by cap (Some digits) = number_by cap digits >>= λ pico. Some (Some pico)
+
+-- the time that a word says, and its picoseconds, if it says them
+abbrev pub stamp_by : (ℕ → ℕ) → List ℕ → Option (ℕ × Option ℕ)
+stamp_by cap word = number_by cap (dotted word).0 >>= λ time. pico_by cap (dotted word).1 >>= λ pico. Some (time, pico)
 
 -- a minus stands before no zero
 abbrev pub below_zero : ℕ → Option ℤ

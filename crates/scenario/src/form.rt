@@ -1,39 +1,68 @@
 ghost use Rattle.std.specs.Prelude.{◌≡◌, Some, None, ℕ};
 ghost use Rattle.std.specs.Option.{option_copied};
 ghost use Rattle.scenario.specs.Words.{capped, Gives, words_left};
-ghost use Rattle.scenario.specs.Grammar.{word_at, last_at, number_at, integer_at, mode_of, mode_at, one_number, two_numbers, queue_at, set_form, items_form, change_form, form_after, form_by, form_read};
+ghost use Rattle.scenario.specs.Grammar.{word_at, last_at, name_at, number_at, stamp_at, integer_at};
+ghost use Rattle.scenario.specs.Grammar.{mode_of, mode_at, one_number, two_numbers, newest_at, rule_at};
+ghost use Rattle.scenario.specs.Grammar.{set_form, items_form, change_form, form_after, form_by, form_read};
 
-use crate::words::{integer_of, number_of, split_word};
+use crate::words::{integer_of, number_of, split_word, stamp_of};
 use ua_base::SetMode;
 
 /// What a line says by its words alone, before any number is judged. A number above `u64::MAX` is read as `u64::MAX`.
 #[derive(Clone, Copy, Debug, PartialEq, Eq)]
 pub enum Form {
     /// `set M N`
-    Set { mode: SetMode, servers: u64 },
-    /// `items I queue Q`
-    Items { items: u64, queue: u64 },
-    /// `change I T V`
-    Change { item: u64, time: u64, value: i128 },
+    Set {
+        mode: SetMode,
+        servers: u64,
+    },
+    /// `items I queue Q`, or `items I queue Q discard newest`
+    Items {
+        items: u64,
+        queue: u64,
+        oldest: bool,
+    },
+    /// `change I T V`, or `change I T.P V` with the picoseconds P
+    Change {
+        item: u64,
+        time: u64,
+        pico: Option<u64>,
+        value: i128,
+    },
     /// `feed S K`
-    Feed { server: u64, count: u64 },
+    Feed {
+        server: u64,
+        count: u64,
+    },
     /// `take S K`
-    Take { server: u64, count: u64 },
+    Take {
+        server: u64,
+        count: u64,
+    },
     /// `stop S`
-    Stop { server: u64 },
+    Stop {
+        server: u64,
+    },
     /// `start S`
-    Start { server: u64 },
+    Start {
+        server: u64,
+    },
     /// `listen I`
-    Listen { item: u64 },
+    Listen {
+        item: u64,
+    },
     /// `unlisten K`
-    Unlisten { id: u64 },
+    Unlisten {
+        id: u64,
+    },
     /// `end`
     End,
 }
 
 /// The next word, and what is left after it.
 fn next_word<'a>(rest: Option<&'a [u8]>) -> Option<(&'a [u8], Option<&'a [u8]>)>
-    ensures { Gives (λ x. (x.0.now, words_left (option_copied x.1))) result (word_at (words_left (option_copied rest.entry))) }
+    ensures { Gives (λ x. (x.0.now, words_left (option_copied x.1))) result
+        (word_at (words_left (option_copied rest.entry))) }
 {
     Some(split_word(rest?))
 }
@@ -49,15 +78,27 @@ fn last(rest: Option<&[u8]>) -> Option<()>
 }
 
 fn next_number<'a>(rest: Option<&'a [u8]>) -> Option<(u64, Option<&'a [u8]>)>
-    ensures { Gives (λ x. (x.0, words_left (option_copied x.1))) result (number_at capped (words_left (option_copied rest.entry))) }
+    ensures { Gives (λ x. (x.0, words_left (option_copied x.1))) result
+        (number_at capped (words_left (option_copied rest.entry))) }
 {
     let (word, rest) = next_word(rest)?;
     let number = number_of(word)?;
     Some((number, rest))
 }
 
+/// A time and the picoseconds behind its dot, if it has one.
+fn next_stamp<'a>(rest: Option<&'a [u8]>) -> Option<((u64, Option<u64>), Option<&'a [u8]>)>
+    ensures { Gives (λ x. (x.0, words_left (option_copied x.1))) result
+        (stamp_at capped (words_left (option_copied rest.entry))) }
+{
+    let (word, rest) = next_word(rest)?;
+    let stamp = stamp_of(word)?;
+    Some((stamp, rest))
+}
+
 fn next_integer<'a>(rest: Option<&'a [u8]>) -> Option<(i128, Option<&'a [u8]>)>
-    ensures { Gives (λ x. (x.0, words_left (option_copied x.1))) result (integer_at capped (words_left (option_copied rest.entry))) }
+    ensures { Gives (λ x. (x.0, words_left (option_copied x.1))) result
+        (integer_at capped (words_left (option_copied rest.entry))) }
 {
     let (word, rest) = next_word(rest)?;
     let number = integer_of(word)?;
@@ -81,22 +122,40 @@ fn mode_of(word: &[u8]) -> Option<SetMode>
 }
 
 fn next_mode<'a>(rest: Option<&'a [u8]>) -> Option<(SetMode, Option<&'a [u8]>)>
-    ensures { Gives (λ x. (x.0, words_left (option_copied x.1))) result (mode_at (words_left (option_copied rest.entry))) }
+    ensures { Gives (λ x. (x.0, words_left (option_copied x.1))) result
+        (mode_at (words_left (option_copied rest.entry))) }
 {
     let (word, rest) = next_word(rest)?;
     let mode = mode_of(word)?;
     Some((mode, rest))
 }
 
-/// What is left after the word `queue`.
-fn after_queue<'a>(rest: Option<&'a [u8]>) -> Option<Option<&'a [u8]>>
-    ensures { Gives (λ x. words_left (option_copied x)) result (queue_at (words_left (option_copied rest.entry))) }
+/// What is left after this word.
+fn after_name<'a>(name: &[u8], rest: Option<&'a [u8]>) -> Option<Option<&'a [u8]>>
+    ensures { Gives (λ x. words_left (option_copied x)) result
+        (name_at name.now (words_left (option_copied rest.entry))) }
 {
     let (word, rest) = next_word(rest)?;
-    if word == b"queue".as_slice() {
-        Some(rest)
-    } else {
-        None
+    if word == name { Some(rest) } else { None }
+}
+
+/// False for exactly the words `discard newest`.
+fn newest(rest: Option<&[u8]>) -> Option<bool>
+    ensures { result ≡ newest_at (words_left (option_copied rest.entry)) }
+{
+    let rest = after_name(b"discard".as_slice(), rest)?;
+    let rest = after_name(b"newest".as_slice(), rest)?;
+    last(rest)?;
+    Some(false)
+}
+
+/// Whether a full queue drops its oldest entry.
+fn rule(rest: Option<&[u8]>) -> Option<bool>
+    ensures { result ≡ rule_at (words_left (option_copied rest.entry)) }
+{
+    match rest {
+        None => Some(true),
+        Some(_) => newest(rest),
     }
 }
 
@@ -130,19 +189,29 @@ fn items_form(rest: Option<&[u8]>) -> Option<Form>
     ensures { result ≡ items_form capped (words_left (option_copied rest.entry)) }
 {
     let (items, rest) = next_number(rest)?;
-    let rest = after_queue(rest)?;
-    let queue = one_number(rest)?;
-    Some(Form::Items { items, queue })
+    let rest = after_name(b"queue".as_slice(), rest)?;
+    let (queue, rest) = next_number(rest)?;
+    let oldest = rule(rest)?;
+    Some(Form::Items {
+        items,
+        queue,
+        oldest,
+    })
 }
 
 fn change_form(rest: Option<&[u8]>) -> Option<Form>
     ensures { result ≡ change_form capped (words_left (option_copied rest.entry)) }
 {
     let (item, rest) = next_number(rest)?;
-    let (time, rest) = next_number(rest)?;
+    let ((time, pico), rest) = next_stamp(rest)?;
     let (value, rest) = next_integer(rest)?;
     last(rest)?;
-    Some(Form::Change { item, time, value })
+    Some(Form::Change {
+        item,
+        time,
+        pico,
+        value,
+    })
 }
 
 /// The form after its first word.

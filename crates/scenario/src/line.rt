@@ -7,8 +7,9 @@ use ua_base::SetMode;
 pub enum Line {
     /// The first line: how the client uses the set, and how many servers it has.
     Set { mode: SetMode, servers: u8 },
-    /// The second line: how many items each server has, and how many entries an item's queue holds.
-    Items { items: u8, queue: u32 },
+    /// The second line: how many items each server has, how many entries an item's queue holds, and whether a full one
+    /// discards its oldest entry (DiscardOldest, OPC 10000-4, 5.12.1.5) or its newest.
+    Items { items: u8, queue: u32, oldest: bool },
     /// The source changes.
     Change { change: Change },
     /// The server is fed the next `count` changes of the source, or as many as there are.
@@ -25,6 +26,21 @@ pub enum Line {
     Unlisten { id: u8 },
     /// The last line.
     End,
+}
+
+/// Which entry a full queue discards, where it isn't the oldest.
+#[derive(Clone, Copy)]
+struct RuleWords(bool);
+
+impl fmt::Display for RuleWords {
+    ghost use Rattle.std.specs.Prelude.{Some};
+    ghost use Rattle.scenario.specs.Texts.{rule_text};
+
+    ghost output = { λ rule. Some (rule_text rule.0) };
+
+    fn fmt<W: fmt::Write>(&self, f: &mut fmt::Formatter<W>) -> fmt::Result {
+        f.write_str(if self.0 { "" } else { " discard newest" })
+    }
 }
 
 /// A mode by its word.
@@ -59,10 +75,18 @@ impl fmt::Display for Line {
                 let word = ModeWord(*mode);
                 write!(f, "set {word} {servers}")
             }
-            Line::Items { items, queue } => write!(f, "items {items} queue {queue}"),
+            Line::Items {
+                items,
+                queue,
+                oldest,
+            } => {
+                let rule = RuleWords(*oldest);
+                write!(f, "items {items} queue {queue}{rule}")
+            }
             Line::Change { change } => {
-                let Change { item, time, value } = *change;
-                write!(f, "change {item} {time} {value}")
+                let Change { item, value, .. } = *change;
+                let stamp = change.stamp();
+                write!(f, "change {item} {stamp} {value}")
             }
             Line::Feed { server, count } => write!(f, "feed {server} {count}"),
             Line::Take { server, count } => write!(f, "take {server} {count}"),

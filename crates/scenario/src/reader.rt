@@ -1,4 +1,5 @@
-ghost use Rattle.std.specs.Prelude.{◌≡◌, ◌==◌, ◌<◌, ◌≤◌, ◌^◌, ◌+◌, ◌∷◌, ◌++◌, ℕ, List, [], pos, true, Some, None, Ok, Err, OnOk, OnErr, filter, length, not, vec_len};
+ghost use Rattle.std.specs.Prelude.{◌≡◌, ◌==◌, ◌<◌, ◌≤◌, ◌^◌, ◌+◌, ◌∷◌, ◌++◌, ℕ, List, [], pos, true};
+ghost use Rattle.std.specs.Prelude.{Some, None, Ok, Err, OnOk, OnErr, filter, length, not, vec_len};
 ghost use Rattle.std.specs.Vec.{vec_capacity};
 ghost use Rattle.std.specs.List.{list_any};
 ghost use Rattle.scenario.specs.declared.form.Form.TheVariants as form;
@@ -6,7 +7,9 @@ ghost use Rattle.scenario.specs.declared.fault.FaultKind.TheVariants as kind;
 ghost use Rattle.scenario.specs.declared.fault.ReadError.TheVariants as errors;
 ghost use Rattle.scenario.specs.Words.{words_of};
 ghost use Rattle.scenario.specs.Past.{attached_in, change_of, changes_in, has_ended, ids_after, listens_in};
-ghost use Rattle.scenario.specs.Faults.{content_verdict, fits_value, has_item, has_no_listener, has_server, is_in_place, is_within, judged, misses_set, tested, the_change, kind_of_refusal, running_server, verdict, any_form_fault};
+ghost use Rattle.scenario.specs.Faults.{content_verdict, fits_value, has_item, has_no_listener, has_server};
+ghost use Rattle.scenario.specs.Faults.{is_in_place, is_within, judged, misses_set, pico_of, tested, the_change};
+ghost use Rattle.scenario.specs.Faults.{kind_of_refusal, running_server, verdict, any_form_fault};
 ghost use Rattle.set_model.specs.Source.{refusal, IsEndOf};
 ghost use Rattle.set_model.specs.declared.source.Change.{Change};
 ghost use Rattle.scenario.specs.Reading.{EndHasRoom, HasRoom, life_of, MayFollow, Steps};
@@ -80,6 +83,17 @@ fn time_of(number: u64) -> Result<i64, FaultKind>
     Ok(number as i64)
 }
 
+/// Picoseconds in steps of ten: from 0 to 9999, and 0 where none are said.
+fn pico_of(number: Option<u64>) -> Result<u16, FaultKind>
+    ensures { result ≡ tested (is_within 0 9999 (pico_of number)) (pico_of number) kind.OutOfRange }
+{
+    match number {
+        None => Ok(0),
+        Some(number) if number <= 9999 => Ok(number as u16),
+        Some(_) => Err(FaultKind::OutOfRange),
+    }
+}
+
 /// A value of 64 bits with a sign.
 fn value_of(number: i128) -> Result<i64, FaultKind>
     ensures { result ≡ tested (fits_value number) number kind.OutOfRange }
@@ -100,12 +114,16 @@ fn set_line(mode: SetMode, servers: u64) -> Result<Line, FaultKind>
     Ok(Line::Set { mode, servers })
 }
 
-fn items_line(items: u64, queue: u64) -> Result<Line, FaultKind>
-    ensures { (pool : ℕ) (before : List Line) → result ≡ content_verdict pool before (form.Items items queue) }
+fn items_line(items: u64, queue: u64, oldest: bool) -> Result<Line, FaultKind>
+    ensures { (pool : ℕ) (before : List Line) → result ≡ content_verdict pool before (form.Items items queue oldest) }
 {
     let items = small(items, 1, 64)?;
     let queue = within(queue, 2, 1000)?;
-    Ok(Line::Items { items, queue })
+    Ok(Line::Items {
+        items,
+        queue,
+        oldest,
+    })
 }
 
 /// Why the source refuses a change, as a kind of fault.
@@ -123,7 +141,8 @@ fn kind_of_refusal(refusal: Option<SourceFault>) -> Option<FaultKind>
 /// A change of the line is the source's last one from now on.
 fn feed_source(source_end: &mut SourceEnd, line: Line)
     requires { EndHasRoom source_end.old line }
-    ensures { (changes : List Change) → IsEndOf source_end.old changes → IsEndOf source_end.new (changes ++ change_of line) }
+    ensures { (changes : List Change) → IsEndOf source_end.old changes →
+        IsEndOf source_end.new (changes ++ change_of line) }
 {
     match line {
         Line::Change { change } => source_end.add(change),
@@ -252,13 +271,25 @@ impl Reader {
         kind_of_refusal(self.source_end.refusal(change))
     }
 
-    fn change_line(&self, item: u64, time: u64, value: i128) -> Result<Line, FaultKind>
-        ensures { (pool : ℕ) → result ≡ content_verdict pool self.now (form.Change item time value) }
+    fn change_line(
+        &self,
+        item: u64,
+        time: u64,
+        pico: Option<u64>,
+        value: i128,
+    ) -> Result<Line, FaultKind>
+        ensures { (pool : ℕ) → result ≡ content_verdict pool self.now (form.Change item time pico value) }
     {
         let time = time_of(time)?;
+        let pico = pico_of(pico)?;
         let value = value_of(value)?;
         let item = self.item(item)?;
-        let change = Change { item, time, value };
+        let change = Change {
+            item,
+            time,
+            pico,
+            value,
+        };
         if let Some(kind) = self.source_fault(change) {
             return Err(kind);
         }
@@ -305,8 +336,17 @@ impl Reader {
     {
         match form {
             Form::Set { mode, servers } => set_line(mode, servers),
-            Form::Items { items, queue } => items_line(items, queue),
-            Form::Change { item, time, value } => self.change_line(item, time, value),
+            Form::Items {
+                items,
+                queue,
+                oldest,
+            } => items_line(items, queue, oldest),
+            Form::Change {
+                item,
+                time,
+                pico,
+                value,
+            } => self.change_line(item, time, pico, value),
             Form::Feed { server, count } => self.feed_line(server, count),
             Form::Take { server, count } => self.take_line(server, count),
             Form::Stop { server } => self.stop_line(server),

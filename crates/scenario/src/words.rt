@@ -1,7 +1,8 @@
 //! A text as lines, a line as words, a word as a number.
 ghost use Rattle.std.specs.Prelude.{◌≡◌, ◌==◌, ◌<◌, ◌∷◌, [], ℕ, Some, None, IfSome, MatchOption, length, position};
 ghost use Rattle.std.specs.Option.{option_copied};
-ghost use Rattle.scenario.specs.Words.{capped, digits_from, integer_by, lines_of, number_by, read_by, words_left, words_of};
+ghost use Rattle.scenario.specs.Words.{capped, digits_from, dotted, integer_by, lines_of, number_by};
+ghost use Rattle.scenario.specs.Words.{pico_by, read_by, stamp_by, words_left, words_of};
 
 /// The first place of a byte.
 fn place_of(bytes: &[u8], byte: u8) -> Option<usize>
@@ -33,6 +34,16 @@ pub(crate) fn split_word(text: &[u8]) -> (&[u8], Option<&[u8]>)
     }
 }
 
+/// What stands before the first dot of a word, and what behind it, if it has one.
+fn split_dot(word: &[u8]) -> (&[u8], Option<&[u8]>)
+    ensures { dotted word.now ≡ (result.0.now, option_copied result.1) }
+{
+    match place_of(word, b'.') {
+        Some(end) => (&word[..end], Some(&word[end + 1..])),
+        None => (word, None),
+    }
+}
+
 /// The number that digits say, at most `u64::MAX`.
 fn digits(word: &[u8]) -> Option<u64>
     ensures { result ≡ read_by capped (digits_from 0 word.now) }
@@ -59,6 +70,26 @@ pub(crate) fn number_of(word: &[u8]) -> Option<u64>
         [b'0', ..] => None,
         _ => digits(word),
     }
+}
+
+/// The picoseconds that are said behind a dot, if there is one, at most `u64::MAX`.
+fn pico_of(digits: Option<&[u8]>) -> Option<Option<u64>>
+    ensures { result ≡ pico_by capped (option_copied digits.entry) }
+{
+    match digits {
+        None => Some(None),
+        Some(digits) => Some(Some(number_of(digits)?)),
+    }
+}
+
+/// The time that a word says and its picoseconds, if it says them, each at most `u64::MAX`.
+pub(crate) fn stamp_of(word: &[u8]) -> Option<(u64, Option<u64>)>
+    ensures { result ≡ stamp_by capped word.now }
+{
+    let (time, digits) = split_dot(word);
+    let time = number_of(time)?;
+    let pico = pico_of(digits)?;
+    Some((time, pico))
 }
 
 /// The whole number that a word is the signed numeral of, its size at most `u64::MAX`.
