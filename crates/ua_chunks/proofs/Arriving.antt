@@ -1,5 +1,5 @@
 -- A chunk that a sender made, taken by an assembler that is in step with it; and then a whole message.
-use Rattle.std.proofs.Common.{◌≡◌, ℕ, zero, suc, ◌+◌, ◌-◌, ◌*◌, ◌^◌, ◌==◌, ◌≤◌, ◌<◌, ◌&&◌, ◌||◌, Bool, true, false, cond, min, nat_lt, nat_le, List, [], ◌∷◌, ◌++◌, length, take, drop, Some, None, refl, sym, ap, subst, ◌∙◌, append_assoc, arith, inl, inr}
+use Rattle.std.proofs.Common.{◌≡◌, ℕ, zero, suc, ◌+◌, ◌-◌, ◌*◌, ◌^◌, ◌==◌, ◌≤◌, ◌<◌, ◌&&◌, ◌||◌, Bool, true, false, cond, min, nat_lt, nat_le, List, [], ◌∷◌, ◌++◌, length, take, drop, Option, Some, None, refl, sym, ap, subst, ◌∙◌, append_assoc, arith, inl, inr}
 use Rattle.std.proofs.Math.Nat.{mul-suc}
 use Rattle.std.proofs.lemmas.Bool.{cases_lt, lt-ltb, le-ltb}
 use Rattle.std.proofs.lemmas.Bool.Decides.{nat_tests}
@@ -13,7 +13,7 @@ use Rattle.ua_chunks.specs.declared.frame.Chunk.TheVariants as chunk
 use Rattle.ua_chunks.specs.declared.frame.Frame.{Frame}
 use Rattle.ua_chunks.specs.declared.message.ChunkHead.{ChunkHead}
 use Rattle.ua_chunks.specs.Frames.{moved}
-use Rattle.ua_chunks.specs.Assembly.{Assembly, after_frame, at_place, first_fault, and_then, assembled, fault_after, has_room, head_of, is_former, message_by, message_of, messages_of, numbered, refusal, refusal_of, takes_number, takes_request, takes_token, unless_faulty, with_chunk, with_fault, without_message}
+use Rattle.ua_chunks.specs.Assembly.{Assembly, Leads, Tokens, after_frame, at_place, first_fault, and_then, assembled, fault_after, has_room, head_of, is_former, message_by, message_of, messages_of, numbered, refusal, refusal_of, takes_number, takes_request, takes_token, tokens_of, unless_faulty, used, with_chunk, with_fault, without_message}
 use Rattle.ua_chunks.specs.Sending.{IsSending, Part, Sending, after_parts, limit_of, limited, message_parts, part, in_chunk, stepped, written_head}
 use Rattle.ua_chunks.specs.Arrival.{InStep, placed}
 use Rattle.ua_chunks.proofs.Chunking.{head_long, next_fits, parts_last, parts_more}
@@ -44,14 +44,14 @@ pub record Ready (request : ℕ) (s : Sending) (a : Assembly) : Type 0 where
   pub request_is : takes_request request a ≡ true
   pub fault : a.fault ≡ None
 
-same_number : (n m : ℕ) → n ≡ m → (m == n) ≡ true
+pub same_number : (n m : ℕ) → n ≡ m → (m == n) ≡ true
 same_number n m e = grind (arith, nat_tests)
 
 not_refused : (h : ChunkHead) (count : ℕ) (a : Assembly) → (h.channel == a.channel) ≡ true → takes_token h.token a ≡ true → takes_number h.number a.last ≡ true → takes_request h.request a ≡ true → has_room count a ≡ true
     → refusal_of h count a ≡ None
 not_refused h count a channel token number request fits = rw (channel, token, number, request, fits) refl
 
-chunk_body_long : (request : ℕ) (s : Sending) (bytes : List ℕ) → length (written_head request s ++ bytes) ≡ 16 + length bytes
+pub chunk_body_long : (request : ℕ) (s : Sending) (bytes : List ℕ) → length (written_head request s ++ bytes) ≡ 16 + length bytes
 chunk_body_long request s bytes = omega (arith, head_long request s, length-append (written_head request s) bytes)
 
 pub chunk_taken : (request : ℕ) (s : Sending) (bytes : List ℕ) (a : Assembly) → IsSending s → request < 2 ^ 32 → Ready request s a → has_room (length bytes) a ≡ true
@@ -68,6 +68,7 @@ chunk_taken request s bytes a is lt ready fits =
     ∙ not_refused (head_in request s) (length bytes) a channel ready.token ready.number ready.request_is fits
 
 pub record TakesChunk (c : Chunk) (request : ℕ) (bytes : List ℕ) (s : Sending) (a : Assembly) (f : Frame) : Type 0 where
+  pub fault : fault_after f a ≡ None
   pub message : message_of f a ≡ message_by c (head_in request s) bytes a
   pub state : after_frame f a ≡ with_chunk c (head_in request s) bytes (numbered (head_in request s) a)
 
@@ -84,6 +85,7 @@ takes_chunk place k c request bytes s a is lt ready fits =
     let head = head_again request s bytes is lt in
     let rest : drop 16 (written_head request s ++ bytes) ≡ bytes = drop_at (written_head request s) bytes 16 (head_long request s) in
     record {
+      fault = none;
       message = ap (λ o. unless_faulty o f a) none
           ∙ ap (λ (h : ChunkHead). message_by c h (drop 16 (written_head request s ++ bytes)) a) head
           ∙ ap (λ (l : List ℕ). message_by c (head_in request s) l a) rest;
@@ -150,6 +152,16 @@ pub record Arrives (place : ℕ) (k : Kind) (request : ℕ) (bytes : List ℕ) (
   pub messages : messages_of (placed place (message_parts k request bytes s)) a ≡ record { request = request; body = a.body ++ bytes } ∷ []
   pub in_step : InStep (after_parts (message_parts k request bytes s) s) (assembled (placed place (message_parts k request bytes s)) a)
   pub sending : IsSending (after_parts (message_parts k request bytes s) s)
+  pub leads : Leads (placed place (message_parts k request bytes s)) (record { request = request; body = a.body ++ bytes }) a
+  pub tokens : tokens_of (assembled (placed place (message_parts k request bytes s)) a) ≡ used s.token (tokens_of a)
+
+used_by : (b : Bool) (o : Option ℕ) → cond b None (cond b None o) ≡ cond b None o
+used_by true o = refl
+used_by false o = refl
+
+-- a token that was used once is used again
+used_again : (token : ℕ) (t : Tokens) → used token (used token t) ≡ used token t
+used_again token t = ap (λ (o : Option ℕ). record { channel = t.channel; token = t.token; former = o }) (used_by (token == t.token) t.former)
 
 arrives_last : (place : ℕ) (k : Kind) (request : ℕ) (bytes : List ℕ) (s : Sending) (a : Assembly) → IsSending s → request < 2 ^ 32 → Ready request s a → has_room (length bytes) a ≡ true
     → message_parts k request bytes s ≡ part k chunk.Final request bytes s ∷ [] → Arrives place k request bytes s a
@@ -159,6 +171,8 @@ arrives_last place k request bytes s a is lt ready fits all =
       messages = ap (λ ps. messages_of (placed place ps) a) all ∙ ap (λ m. and_then m []) t.message;
       in_step = subst (λ ps. InStep (after_parts ps s) (assembled (placed place ps) a)) (sym all) (subst (InStep (stepped s)) (sym t.state) (after_final request s a ready));
       sending = subst (λ ps. IsSending (after_parts ps s)) (sym all) (stepped_is s is);
+      leads = subst (λ ps. Leads (placed place ps) (record { request = request; body = a.body ++ bytes }) a) (sym all) (t.fault, inl (refl, t.message));
+      tokens = ap (λ ps. tokens_of (assembled (placed place ps) a)) all ∙ ap tokens_of t.state;
     }
 
 arrives_more : (place : ℕ) (k : Kind) (request : ℕ) (bytes : List ℕ) (s : Sending) (a : Assembly) → IsSending s → request < 2 ^ 32 → Ready request s a → has_room (length (take (in_chunk s) bytes)) a ≡ true
@@ -183,6 +197,18 @@ arrives_more place k request bytes s a is lt ready fits all others =
       in_step = subst (λ ps. InStep (after_parts ps s) (assembled (placed place ps) a)) (sym all)
           (subst (λ b. InStep (after_parts parts (stepped s)) (assembled (placed next parts) b)) (sym t.state) o.in_step);
       sending = subst (λ ps. IsSending (after_parts ps s)) (sym all) o.sending;
+      leads = subst (λ ps. Leads (placed place ps) (record { request = request; body = a.body ++ bytes }) a) (sym all) (
+        t.fault,
+        inr (
+          t.message,
+          subst (λ b. Leads (placed next parts) (record { request = request; body = a.body ++ bytes }) b) (sym t.state)
+              (subst (λ (l : List ℕ). Leads (placed next parts) (record { request = request; body = l }) (with_middle request front s a)) whole o.leads),
+        ),
+      );
+      tokens = ap (λ ps. tokens_of (assembled (placed place ps) a)) all
+          ∙ ap (λ b. tokens_of (assembled (placed next parts) b)) t.state
+          ∙ o.tokens
+          ∙ used_again s.token (tokens_of a);
     }
 
 -- a message that has room in so many chunks and one more

@@ -1,14 +1,16 @@
 -- What is written of HEL, ACK, ERR and OPN is a spelling, and is read again.
-use Rattle.std.proofs.Common.{◌≡◌, ℕ, ◌^◌, ◌<◌, List, ◌++◌, Some, None, Ok, refl, sym, ap, ◌∙◌, append_assoc, arith}
+use Rattle.std.proofs.Common.{◌≡◌, ℕ, ◌+◌, ◌^◌, ◌<◌, List, [], ◌++◌, length, Option, Some, None, Ok, refl, sym, ap, ◌∙◌, append_assoc, arith}
+use Rattle.std.proofs.lemmas.List.{append-nil}
 use Rattle.byteorder.specs.Endian.{little_bytes}
-use Rattle.ua_values.specs.Reading.{input}
+use Rattle.ua_values.specs.Codec.{IsCodec}
+use Rattle.ua_values.specs.Reading.{Reader, ◌>>=◌, give, input, passed}
 use Rattle.ua_values.specs.Parts.{number}
 use Rattle.ua_values.specs.Written.{written_text}
 use Rattle.ua_values.specs.Laws.{IsLawful}
 use Rattle.ua_values.proofs.WrittenLemmas.{lawful, number_spelled, text_spelled}
 use Rattle.ua_chunks.specs.declared.greeting.Greeting.{Greeting}
 use Rattle.ua_chunks.specs.declared.opening.OpnHead.{OpnHead}
-use Rattle.ua_chunks.specs.Bodies.{KeepsGreeting, KeepsHello, KeepsOpnHead, error, error_at, greeting, greeting_at, hello, hello_at, opn_head, opn_head_at, opn_of, policy, policy_at, value_of, written_error, written_greeting, written_hello, written_opn_head}
+use Rattle.ua_chunks.specs.Bodies.{KeepsGreeting, KeepsHello, KeepsOpnHead, end_at, error, error_at, greeting, greeting_at, hello, hello_at, opn_head, opn_head_at, opn_of, policy, policy_at, value_of, whole_at, written_error, written_greeting, written_hello, written_opn_head}
 use Rattle.ua_chunks.specs.Sending.{IsSending, Sending, none_policy, opn_head_of, opn_part}
 use Rattle.ua_chunks.specs.Arrival.{opn_put}
 use Rattle.ua_chunks.proofs.BodyCodecs.{error_codec, greeting_codec, hello_codec, opn_head_codec, policy_codec}
@@ -121,3 +123,20 @@ policy_again request body s is lt =
     ap (λ (l : List ℕ). l ++ body) (six_right a b (written_text h.certificate) (written_text h.thumbprint) (little_bytes 4 h.number) (little_bytes 4 h.request) ∙ sym (append_assoc a b more)) ∙ append_assoc (a ++ b) more body in
     ap (λ (l : List ℕ). value_of (policy_at (input 0 l))) split
     ∙ ap value_of (policy_codec.again 0 (a ++ b) (more ++ body) h.policy (front_policy h (opn_kept request s is lt)))
+
+-- ---- HEL, ACK and ERR as they were written
+
+alone : {A : Type 0} (S : A → List ℕ → Type 0) (at : Reader A) → IsCodec S at → (a : A) (text : List ℕ) → S a text → value_of (whole_at at (input 0 text)) ≡ Ok a
+alone S at codec a text spelled =
+    let read : at (input 0 (text ++ [])) ≡ Ok (a, input (0 + length text) []) = codec.again 0 text [] a spelled in
+    ap (λ (l : List ℕ). value_of (whole_at at (input 0 l))) (sym (append-nil text))
+    ∙ ap (λ q. value_of (passed q (λ b. end_at >>= λ u. give b))) read
+
+pub hello_alone : (g : Greeting) (url : Option (List ℕ)) → KeepsHello (g, url) → value_of (whole_at hello_at (input 0 (written_hello (g, url)))) ≡ Ok (g, url)
+hello_alone g url kept = alone hello hello_at hello_codec (g, url) (written_hello (g, url)) (hello_lawful.spelled (g, url) kept)
+
+pub ack_alone : (g : Greeting) → KeepsGreeting g → value_of (whole_at greeting_at (input 0 (written_greeting g))) ≡ Ok g
+ack_alone g kept = alone greeting greeting_at greeting_codec g (written_greeting g) (greeting_spelled g kept)
+
+pub err_alone : (code : ℕ) → code < 2 ^ 32 → value_of (whole_at error_at (input 0 (written_error code))) ≡ Ok code
+err_alone code lt = alone error error_at error_codec code (written_error code) (error_lawful.spelled code lt)

@@ -8,4 +8,5 @@ pub mod Chunking
 pub mod Arriving
 pub mod Putting
 pub mod Making
+pub mod Leading
 pub mod BodyLaws

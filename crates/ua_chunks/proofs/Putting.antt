@@ -18,8 +18,8 @@ use Rattle.ua_chunks.specs.declared.message.MessageFault.{MessageFault}
 use Rattle.ua_chunks.specs.Frames.{framed, moved}
 use Rattle.ua_chunks.specs.Framing.{Brings, Framing, IsBetween, given, new_framing}
 use Rattle.ua_chunks.specs.Streams.{AreFrom, after_frames, all_bytes, frame_bytes}
-use Rattle.ua_chunks.specs.Assembly.{Assembly, Ended, after_frame, and_then, assembled, fault_after, first_fault, is_former, message_of, messages_of, new_assembly, renewed, takes_number, unless_faulty, with_fault, with_number}
-use Rattle.ua_chunks.specs.Sending.{IsSending, MayPut, Part, Sending, after_parts, after_put, message_parts, new_sending, none_policy, opn_part, part, part_bytes, parts_bytes, parts_of, put_bytes, in_chunk, stepped, written_head}
+use Rattle.ua_chunks.specs.Assembly.{Assembly, Ended, Leads, after_frame, and_then, assembled, fault_after, first_fault, is_former, message_of, messages_of, new_assembly, renewed, takes_number, tokens_of, unless_faulty, used, with_fault, with_number}
+use Rattle.ua_chunks.specs.Sending.{IsSending, MayPut, Part, Sending, after_parts, after_put, message_parts, new_sending, none_policy, opn_part, part, part_bytes, parts_bytes, parts_of, put_bytes, in_chunk, stepped, whole_part, with_limits, written_head}
 use Rattle.ua_chunks.specs.Arrival.{ArePut, InStep, IsPut, Put, after_all, all_put, frames_put, message_put, placed}
 use Rattle.ua_chunks.proofs.Written.{frame_long, frames_again}
 use Rattle.ua_chunks.proofs.Streaming.{all_given, brings}
@@ -88,6 +88,8 @@ pub record Comes (place : ℕ) (m : Put) (s : Sending) (a : Assembly) : Type 0 w
   pub messages : messages_of (placed place (parts_of m.kind m.request m.body s)) a ≡ message_put m ∷ []
   pub in_step : InStep (after_put m.kind m.request m.body s) (assembled (placed place (parts_of m.kind m.request m.body s)) a)
   pub sending : IsSending (after_put m.kind m.request m.body s)
+  pub leads : Leads (placed place (parts_of m.kind m.request m.body s)) (message_put m) a
+  pub tokens : tokens_of (assembled (placed place (parts_of m.kind m.request m.body s)) a) ≡ used s.token (tokens_of a)
 
 ready_is : (request : ℕ) (s : Sending) (a : Assembly) → InStep s a → Ready request s a
 ready_is request s a step =
@@ -111,6 +113,8 @@ comes_message place request body s a is lt step room =
       messages = r.messages ∙ ap (λ (l : List ℕ). record { request = request; body = l ++ body } ∷ []) step.body;
       in_step = r.in_step;
       sending = r.sending;
+      leads = subst (λ (l : List ℕ). Leads (placed place (message_parts kind.Msg request body s)) (record { request = request; body = l ++ body }) a) step.body r.leads;
+      tokens = r.tokens;
     }
 
 comes_close : (place request : ℕ) (body : List ℕ) (s : Sending) (a : Assembly) → IsSending s → request < 2 ^ 32 → InStep s a → HasRoom (length body) s → length body ≤ 4096 → Comes place (put_of kind.Clo request body) s a
@@ -122,6 +126,8 @@ comes_close place request body s a is lt step has short =
       messages = r.messages ∙ ap (λ (l : List ℕ). record { request = request; body = l ++ body } ∷ []) step.body;
       in_step = r.in_step;
       sending = r.sending;
+      leads = subst (λ (l : List ℕ). Leads (placed place (message_parts kind.Clo request body s)) (record { request = request; body = l ++ body }) a) step.body r.leads;
+      tokens = r.tokens;
     }
 
 comes_by : (k : Kind) (place request : ℕ) (body : List ℕ) (s : Sending) (a : Assembly) → (k ≡ kind.Msg) ⊎ (k ≡ kind.Clo) → MayPut k (length body) → IsSending s → request < 2 ^ 32 → InStep s a → HasRoom (length body) s → Comes place (put_of k request body) s a
@@ -142,11 +148,11 @@ and_append : (o : Option Message) (xs ys : List Message) → and_then o (xs ++ y
 and_append None xs ys = refl
 and_append (Some m) xs ys = refl
 
-messages_append : (xs ys : List Frame) (a : Assembly) → messages_of (xs ++ ys) a ≡ messages_of xs a ++ messages_of ys (assembled xs a)
+pub messages_append : (xs ys : List Frame) (a : Assembly) → messages_of (xs ++ ys) a ≡ messages_of xs a ++ messages_of ys (assembled xs a)
 messages_append [] ys a = refl
 messages_append (f ∷ xs) ys a = ap (and_then (message_of f a)) (messages_append xs ys (after_frame f a)) ∙ and_append (message_of f a) (messages_of xs (after_frame f a)) (messages_of ys (assembled xs (after_frame f a)))
 
-assembled_append : (xs ys : List Frame) (a : Assembly) → assembled (xs ++ ys) a ≡ assembled ys (assembled xs a)
+pub assembled_append : (xs ys : List Frame) (a : Assembly) → assembled (xs ++ ys) a ≡ assembled ys (assembled xs a)
 assembled_append [] ys a = refl
 assembled_append (f ∷ xs) ys a = assembled_append xs ys (after_frame f a)
 
@@ -286,17 +292,23 @@ former_taken token s a step same = record {
 
 -- ---- after a fault
 
-pub ended : (frames : List Frame) (fault : MessageFault) (a : Assembly) → a.fault ≡ Some fault → Ended frames fault a
+ended_rest : (f : Frame) (frames : List Frame) (fault : MessageFault) (a : Assembly) → fault_after f a ≡ Some fault
+    → Ended frames fault (record a { fault = Some fault }) → Ended (f ∷ frames) fault a
 unfolding after_frame message_of
-ended [] fault a e = record { messages = refl; fault_is = e }
-ended (f ∷ frames) fault a e =
-    let after : fault_after f a ≡ Some fault = ap (λ o. first_fault o f a) e in
+ended_rest f frames fault a after more =
     let state : after_frame f a ≡ record a { fault = Some fault } = ap (λ o. with_fault o f a) after in
-    let more = ended frames fault (record a { fault = Some fault }) refl in
     record {
       messages = ap (λ o. and_then o (messages_of frames (after_frame f a))) (ap (λ o. unless_faulty o f a) after) ∙ ap (messages_of frames) state ∙ more.messages;
       fault_is = ap (λ b. (assembled frames b).fault) state ∙ more.fault_is;
     }
+
+pub ended : (frames : List Frame) (fault : MessageFault) (a : Assembly) → a.fault ≡ Some fault → Ended frames fault a
+ended [] fault a e = record { messages = refl; fault_is = e }
+ended (f ∷ frames) fault a e = ended_rest f frames fault a (ap (λ o. first_fault o f a) e) (ended frames fault (record a { fault = Some fault }) refl)
+
+-- a frame that breaks a rule ends it all
+pub ended_by : (f : Frame) (frames : List Frame) (fault : MessageFault) (a : Assembly) → fault_after f a ≡ Some fault → Ended (f ∷ frames) fault a
+ended_by f frames fault a after = ended_rest f frames fault a after (ended frames fault (record a { fault = Some fault }) refl)
 
 -- ---- an OPN's frame
 
@@ -311,6 +323,24 @@ opn_small request body s short =
     let one = length-append (p ++ little_bytes 4 s.next) (little_bytes 4 request) in
     let two = length-append p (little_bytes 4 s.next) in
     record { chunk = inr refl; small = omega (arith, a, n, r, text, all, one, two) }
+
+pub opn_long : (request : ℕ) (body : List ℕ) (s : Sending) → length (opn_part request body s).body ≡ 71 + length body
+opn_long request body s =
+    let a = length-bytes_low_first 0 4 s.channel in
+    let n = length-bytes_low_first 0 4 s.next in
+    let r = length-bytes_low_first 0 4 request in
+    let p = little_bytes 4 s.channel ++ written_text (Some none_policy) ++ written_text None ++ written_text None in
+    let text : length p ≡ 4 + 51 + 4 + 4 = refl in
+    let all = length-append (p ++ little_bytes 4 s.next ++ little_bytes 4 request) body in
+    let one = length-append (p ++ little_bytes 4 s.next) (little_bytes 4 request) in
+    let two = length-append p (little_bytes 4 s.next) in
+    omega (arith, a, n, r, text, all, one, two)
+
+pub opn_fits : (request : ℕ) (body : List ℕ) (s : Sending) → IsSending s → length body ≤ 4096 → 8 + length (opn_part request body s).body ≤ s.size
+opn_fits request body s is short = omega (arith, opn_long request body s, is.least)
+
+pub opn_sends : (request : ℕ) (body : List ℕ) (s : Sending) → IsSending s → IsSending (after_put kind.Opn request body s)
+opn_sends request body s is = stepped_is s is
 
 pub opn_framed : (place request : ℕ) (body more : List ℕ) (s : Sending) → place < 2 ^ 64 → IsSending s → length body ≤ 4096
     → framed place (put_bytes kind.Opn request body s ++ more)
@@ -351,3 +381,53 @@ follows number last = record {
         ap (λ x. (number == last + 1) || (x && nat_lt number 1024)) a ∙ ap (λ x. (number == last + 1) || x) b ∙ or_true (number == last + 1)
   ];
 }
+
+-- ---- one frame, fed whole
+
+pub opn_fed : (request : ℕ) (body : List ℕ) (s : Sending) (f : Framing) → IsBetween f → length body ≤ 4096
+    → Brings (placed f.place (opn_part request body s ∷ [])) (put_bytes kind.Opn request body s) f
+opn_fed request body s f between short =
+    let parts = opn_part request body s ∷ [] in
+    subst (λ (l : List ℕ). Brings (placed f.place parts) l f) (placed_bytes f.place parts)
+    (brings (placed f.place parts) f between (placed_from 65536 f.place parts (omega arith) (opn_small request body s short, tt)))
+
+whole_small : (k : Kind) (body : List ℕ) → length body ≤ 65528 → IsPart 65536 (whole_part k body)
+whole_small k body short = record { chunk = inr refl; small = omega (arith, short) }
+
+pub whole_fed : (k : Kind) (body : List ℕ) (f : Framing) → IsBetween f → length body ≤ 65528
+    → Brings (placed f.place (whole_part k body ∷ [])) (part_bytes (whole_part k body)) f
+whole_fed k body f between short =
+    let parts = whole_part k body ∷ [] in
+    subst (λ (l : List ℕ). Brings (placed f.place parts) l f) (placed_bytes f.place parts ∙ append-nil (part_bytes (whole_part k body)))
+    (brings (placed f.place parts) f between (placed_from 65536 f.place parts (omega arith) (whole_small k body short, tt)))
+
+-- ---- the beginning, and the end of a renewal
+
+pub new_sends : (channel token size max_message max_chunks : ℕ) → channel < 2 ^ 32 → token < 2 ^ 32 → 8192 ≤ size → IsSending (new_sending channel token size max_message max_chunks)
+new_sends channel token size max_message max_chunks lc lt least = record { channel = lc; token = lt; least = omega arith; most = omega arith; next = omega arith }
+
+pub renewed_sends : (channel token : ℕ) (s : Sending) → IsSending s → channel < 2 ^ 32 → token < 2 ^ 32 → IsSending (record s { channel = channel; token = token })
+renewed_sends channel token s is lc lt = record { channel = lc; token = lt; least = is.least; most = is.most; next = is.next }
+
+parts_send : (parts : List Part) (s : Sending) → IsSending s → IsSending (after_parts parts s)
+parts_send [] s is = is
+parts_send (p ∷ parts) s is = parts_send parts (stepped s) (stepped_is s is)
+
+pub put_sends : (k : Kind) (request : ℕ) (body : List ℕ) (s : Sending) → IsSending s → IsSending (after_put k request body s)
+put_sends k request body s is = parts_send (parts_of k request body s) s is
+
+pub limits_send : (size max_message max_chunks : ℕ) (s : Sending) → IsSending s → 8192 ≤ size → IsSending (with_limits size max_message max_chunks s)
+limits_send size max_message max_chunks s is least = record { channel = is.channel; token = is.token; least = omega arith; most = omega arith; next = is.next }
+
+pub begins_in_step : (channel token size max_message max_chunks : ℕ) → InStep (new_sending channel token size max_message max_chunks) (new_assembly channel token)
+begins_in_step channel token size max_message max_chunks = in_step_new (new_sending channel token size max_message max_chunks)
+
+pub limits_in_step : (size max_message max_chunks : ℕ) (s : Sending) (a : Assembly) → InStep s a → InStep (with_limits size max_message max_chunks s) a
+limits_in_step size max_message max_chunks s a step =
+    record { channel = step.channel; token = step.token; number = step.number; chunks = step.chunks; body = step.body; fault = step.fault }
+
+-- the sender takes the channel and token that are awaited
+pub caught_up : (s : Sending) (a : Assembly) → InStep s a → InStep (record s { channel = a.channel; token = a.token }) a
+caught_up s a step =
+    let same : (a.token == a.token) ≡ true = grind (arith, nat_tests) in
+    record { channel = refl; token = ap (λ b. b || is_former a.token a.former) same; number = step.number; chunks = step.chunks; body = step.body; fault = step.fault }

@@ -5,8 +5,9 @@ use Rattle.ua_chunks.specs.declared.frame.Kind.TheVariants as kind
 use Rattle.ua_chunks.specs.declared.frame.Frame.{Frame}
 use Rattle.ua_chunks.specs.declared.message.Message.{Message}
 use Rattle.ua_chunks.specs.declared.opening.OpnChunk.{OpnChunk}
-use Rattle.ua_chunks.specs.Frames.{moved}
-use Rattle.ua_chunks.specs.Assembly.{Assembly, takes_number, takes_token}
+use Rattle.ua_chunks.specs.Frames.{fault_of, moved}
+use Rattle.ua_chunks.specs.Framing.{Framing, after_feed, frames_of}
+use Rattle.ua_chunks.specs.Assembly.{Assembly, assembled, messages_of, takes_number, takes_token}
 use Rattle.ua_chunks.specs.Sending.{MayPut, Part, Sending, after_put, limit_of, none_policy, parts_of, put_bytes}
 
 -- parts as frames, from a place of the stream on
@@ -62,6 +63,15 @@ pub record InStep (s : Sending) (a : Assembly) : Type 0 where
   pub chunks : a.chunks ≡ 0
   pub body : a.body ≡ []
   pub fault : a.fault ≡ None
+
+-- a front of the bytes put has no fault, and gives a front of the frames and of the messages
+pub record BeginsWith (front : List ℕ) (frames : List Frame) (messages : List Message) (f : Framing) (a : Assembly) : Type 0 where
+  pub framing : fault_of (after_feed front f).held ≡ None
+  pub later_frames : List Frame
+  pub frames_are : frames ≡ frames_of front f ++ later_frames
+  pub assembly : (assembled (frames_of front f) a).fault ≡ None
+  pub later_messages : List Message
+  pub messages_are : messages ≡ messages_of (frames_of front f) a ++ later_messages
 
 -- what is read of an OPN put
 abbrev pub opn_put : ℕ → List ℕ → Sending → OpnChunk

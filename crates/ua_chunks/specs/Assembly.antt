@@ -1,5 +1,5 @@
 -- What an assembler makes of the chunks of a secure channel (OPC 10000-6, 6.7.2 and 6.7.3).
-use Rattle.std.specs.Prelude.{◌≡◌, ◌≤◌, ◌<◌, ◌^◌, ℕ, ◌+◌, ◌-◌, ◌==◌, ◌&&◌, ◌||◌, not, nat_lt, nat_le, List, [], ◌∷◌, ◌++◌, length, drop, Bool, true, false, Option, Some, None, Result, Ok, Err, if◌then◌else◌}
+use Rattle.std.specs.Prelude.{◌≡◌, ◌≤◌, ◌<◌, ◌^◌, ℕ, ◌+◌, ◌-◌, ◌==◌, ◌&&◌, ◌||◌, not, nat_lt, nat_le, List, [], ◌∷◌, ◌++◌, length, drop, Bool, true, false, Option, Some, None, Result, Ok, Err, ◌⊎◌, if◌then◌else◌}
 use Rattle.byteorder.specs.Endian.{little_number}
 use Rattle.ua_base.specs.Status.{bad_decoding_error, bad_secure_channel_token_unknown, bad_sequence_number_invalid, bad_tcp_message_too_large, bad_tcp_secure_channel_unknown}
 use Rattle.ua_chunks.specs.declared.frame.Chunk.{Chunk}
@@ -150,6 +150,19 @@ TakesNumber (Err (faults.Bad at code)) place number old new =
     (takes_number number old.last ≡ false) × (at ≡ place) × (code ≡ bad_sequence_number_invalid) × (new ≡ old)
 TakesNumber (Err faults.OutOfMemory) place number old new = ⊥
 
+-- which chunks are taken: those of this channel and token, and those of the former token
+pub record Tokens : Type 0 where
+  pub channel : ℕ
+  pub token : ℕ
+  pub former : Option ℕ
+
+abbrev pub tokens_of : Assembly → Tokens
+tokens_of s = record { channel = s.channel; token = s.token; former = s.former }
+
+-- what a chunk with this token leaves of them
+abbrev pub used : ℕ → Tokens → Tokens
+used token t = record t { former = if token == t.token then None else t.former }
+
 -- ---- any frames
 
 abbrev pub and_then : Option Message → List Message → List Message
@@ -164,10 +177,40 @@ abbrev pub assembled : List Frame → Assembly → Assembly
 assembled [] s = s
 assembled (f ∷ frames) s = assembled frames (after_frame f s)
 
+-- frames of which none breaks a rule, each before the last makes nothing, and the last makes this message
+abbrev pub Leads : List Frame → Message → Assembly → Type 0
+Leads [] m s = ⊥
+Leads (f ∷ frames) m s =
+    (fault_after f s ≡ None)
+    × (((frames ≡ []) × (message_of f s ≡ Some m)) ⊎ ((message_of f s ≡ None) × Leads frames m (after_frame f s)))
+
 -- after a fault there is no message, and the fault stays
 pub record Ended (frames : List Frame) (fault : MessageFault) (s : Assembly) : Type 0 where
   pub messages : messages_of frames s ≡ []
   pub fault_is : (assembled frames s).fault ≡ Some fault
+
+-- the first of the frames breaks a rule, so that none makes a message
+pub record RefusesFirst (frames : List Frame) (fault : MessageFault) (s : Assembly) : Type 0 where
+  pub first : Frame
+  pub others : List Frame
+  pub are : frames ≡ first ∷ others
+  pub breaks : fault_after first s ≡ Some fault
+  pub ended : Ended frames fault s
+
+-- frames make these messages, and no more after them: then comes the fault
+pub record Breaks (frames : List Frame) (messages : List Message) (fault : MessageFault) (s : Assembly) : Type 0 where
+  pub messages_are : messages_of frames s ≡ messages
+  pub fault_is : (assembled frames s).fault ≡ Some fault
+
+-- the first of the frames that breaks a rule stands behind frames that break none
+pub record HasFirstFault (frames : List Frame) (fault : MessageFault) (s : Assembly) : Type 0 where
+  pub before : List Frame
+  pub broken : Frame
+  pub later : List Frame
+  pub are : frames ≡ before ++ broken ∷ later
+  pub none : (assembled before s).fault ≡ None
+  pub fault_is : fault_after broken (assembled before s) ≡ Some fault
+  pub messages : messages_of frames s ≡ messages_of before s
 
 -- the bytes of a chunk that are the message's
 abbrev pub own_bytes : Frame → List ℕ

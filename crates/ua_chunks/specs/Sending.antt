@@ -66,6 +66,10 @@ pub record Part : Type 0 where
   pub chunk : Chunk
   pub body : List ℕ
 
+-- all of a frame in one part
+abbrev pub whole_part : Kind → List ℕ → Part
+whole_part k body = record { kind = k; chunk = chunk.Final; body = body }
+
 abbrev pub stepped : Sending → Sending
 stepped s = record s { next = after_chunk s.next }
 

@@ -1,5 +1,6 @@
 ghost use Rattle.std.specs.Prelude.{◌≡◌, ◌≤◌, length, take};
-ghost use Rattle.ua_chunks.specs.Frames.{chunk_of, header_of, judged_header, kind_of, letter, letters, sized, stage_of, type_of, typed};
+ghost use Rattle.ua_chunks.specs.Frames.{chunk_of, header_of, judged_header, kind_of, letter, letters, sized};
+ghost use Rattle.ua_chunks.specs.Frames.{stage_of, type_of, typed};
 
 use crate::body::Body;
 use byteorder::{ByteOrder, LittleEndian};

@@ -1,6 +1,7 @@
 ghost use Rattle.std.specs.Prelude.{[], ◌∷◌, ◌≡◌, ◌<◌, ◌≤◌, ◌^◌, ◌++◌, length, IfOk, None, OnErr, OnOk};
 ghost use Rattle.ua_chunks.specs.Frames.{fault_of, frame_at, moved, stage_of};
-ghost use Rattle.ua_chunks.specs.Framing.{Awaits, Feeds, Fits, Gains, GainsFront, IsSettled, TellsFault, after_feed, frames_of, new_framing, rest_of};
+ghost use Rattle.ua_chunks.specs.Framing.{Awaits, Feeds, Fits, Gains, GainsFront, IsSettled, TellsFault};
+ghost use Rattle.ua_chunks.specs.Framing.{after_feed, frames_of, new_framing, rest_of};
 
 use crate::body::Body;
 use crate::frame::{Frame, FrameFault, HEADER, Header, Stage};
@@ -26,7 +27,12 @@ impl Model for Framer {
 
     ghost view = { λ f. record { place = f.place; held = f.held.items; missed = f.missed; failed = f.failed } };
 
-    ghost invariant = { λ f. IsSettled (record { place = f.place; held = f.held.items; missed = f.missed; failed = f.failed }) };
+    ghost invariant = { λ f. IsSettled (record {
+      place = f.place;
+      held = f.held.items;
+      missed = f.missed;
+      failed = f.failed;
+    }) };
 }
 
 impl Header {
@@ -79,8 +85,8 @@ impl Framer {
     /// # Errors
     ///
     /// `Bad` where the eight bytes of a header break a rule, after the frames before it were appended. Each later call
-    /// answers the same. Where memory was refused, only the first of the frames were appended, behind what the list had, and
-    /// each later call answers want of memory and appends none.
+    /// answers the same. Where memory was refused, only the first of the frames were appended, behind what the list
+    /// had, and each later call answers want of memory and appends none.
     pub fn feed(
         &mut self,
         alloc: Global,
@@ -147,7 +153,8 @@ impl Framer {
     ) -> Result<&'a [u8], OutOfMemory>
         requires { 0 < length bytes.now }
         ensures state { IfOk result (λ rest. after_feed rest.now self.new ≡ after_feed bytes.now self.old) }
-        ensures frames { IfOk result (λ rest. Gains (frames_of bytes.now self.old) to.old.items to.new.items (frames_of rest.now self.new)) }
+        ensures frames { IfOk result (λ rest.
+            Gains (frames_of bytes.now self.old) to.old.items to.new.items (frames_of rest.now self.new)) }
         ensures shorter { IfOk result (λ rest. length rest.now < length bytes.now) }
         ensures part { OnErr result (to.new.items ≡ to.old.items) }
     {
@@ -156,7 +163,8 @@ impl Framer {
         Ok(rest)
     }
 
-    /// How many of so many bytes are taken in at once: up to the end of the header or of the frame, or all after a fault.
+    /// How many of so many bytes are taken in at once: up to the end of the header or of the frame, or all after a
+    /// fault.
     fn portion(&self, count: usize) -> usize
         requires { 0 < count }
         ensures at_most { result ≤ count }

@@ -1,6 +1,8 @@
 ghost use Rattle.std.specs.Prelude.{◌≡◌, ◌≤◌, ◌++◌, length, IfOk, IfSome, OnErr, OnOk};
 ghost use Rattle.ua_values.specs.Reading.{Gives, Moves, input};
-ghost use Rattle.ua_chunks.specs.Bodies.{Ends, IsWhole, error, error_at, greeting, greeting_at, hello, hello_at, value_of, whole_at, written_error, written_greeting, written_hello};
+ghost use Rattle.ua_chunks.specs.Bodies.{Ends, IsWhole, error, error_at, greeting, greeting_at, hello};
+ghost use Rattle.ua_chunks.specs.Bodies.{hello_at, value_of, whole_at, written_error, written_greeting};
+ghost use Rattle.ua_chunks.specs.Bodies.{written_hello};
 ghost use Rattle.ua_chunks.specs.Streams.{chunk_bytes};
 ghost use Rattle.ua_chunks.specs.declared.frame.Kind.TheVariants as kind;
 ghost use Rattle.ua_chunks.specs.declared.frame.Chunk.TheVariants as chunk;
@@ -191,7 +193,8 @@ pub fn write_hello(
     to: &mut Vec<u8>,
 ) -> Result<(), OutOfMemory>
     requires { IfSome url.now (λ run. length run ≤ 4091) }
-    ensures ok { OnOk result (to.new.items ≡ to.old.items ++ chunk_bytes kind.Hel chunk.Final (written_hello (greeting.now, url.now))) }
+    ensures ok { OnOk result (to.new.items
+        ≡ to.old.items ++ chunk_bytes kind.Hel chunk.Final (written_hello (greeting.now, url.now))) }
     ensures unchanged { OnErr result (to.new.items ≡ to.old.items) }
 {
     let body = hello_body(alloc, greeting, url)?;
@@ -200,7 +203,8 @@ pub fn write_hello(
 
 /// Appends a whole ACK (OPC 10000-6, 7.1.2.4).
 pub fn write_ack(alloc: Global, greeting: &Greeting, to: &mut Vec<u8>) -> Result<(), OutOfMemory>
-    ensures ok { OnOk result (to.new.items ≡ to.old.items ++ chunk_bytes kind.Ack chunk.Final (written_greeting greeting.now)) }
+    ensures ok { OnOk result (to.new.items
+        ≡ to.old.items ++ chunk_bytes kind.Ack chunk.Final (written_greeting greeting.now)) }
     ensures unchanged { OnErr result (to.new.items ≡ to.old.items) }
 {
     let body = ack_body(alloc, greeting)?;

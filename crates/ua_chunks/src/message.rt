@@ -1,5 +1,8 @@
 ghost use Rattle.std.specs.Prelude.{◌≡◌, ◌≤◌, None, true, Err, IfOk, drop, length, OnErr, OnOk};
-ghost use Rattle.ua_chunks.specs.Assembly.{Adds, IsAssembly, TakesNumber, fault_after, has_room, head_of, message_by, new_assembly, numbered, refusal, refusal_of, renewed, takes_number, takes_request, takes_token, with_chunk, without_message};
+ghost use Rattle.ua_chunks.specs.Assembly.{Adds, IsAssembly, TakesNumber, fault_after, has_room, head_of};
+ghost use Rattle.ua_chunks.specs.Assembly.{message_by, new_assembly, numbered, refusal, refusal_of, renewed};
+ghost use Rattle.ua_chunks.specs.Assembly.{takes_number, takes_request, takes_token, with_chunk};
+ghost use Rattle.ua_chunks.specs.Assembly.{without_message};
 ghost use Rattle.ua_chunks.specs.declared.frame.FrameFault.TheVariants as faults;
 
 use crate::body::Body;
@@ -105,7 +108,16 @@ impl Model for Assembler {
 
     ghost Value = { Assembly };
 
-    ghost view = { λ a. record { channel = a.channel; token = a.token; former = a.former; last = a.last; chunks = a.chunks; request = a.request; body = a.body.items; fault = a.fault } };
+    ghost view = { λ a. record {
+      channel = a.channel;
+      token = a.token;
+      former = a.former;
+      last = a.last;
+      chunks = a.chunks;
+      request = a.request;
+      body = a.body.items;
+      fault = a.fault;
+    } };
 
     ghost invariant = { λ a. (a.chunks ≤ 64) × (length a.body.items ≤ 1048576) };
 }
@@ -264,8 +276,10 @@ impl Assembler {
         bytes: &[u8],
     ) -> Result<Option<Message>, OutOfMemory>
         requires { refusal bytes.now self.old ≡ None }
-        ensures state { OnOk result (self.new ≡ with_chunk chunk (head_of bytes.now) (drop 16 bytes.now) (numbered (head_of bytes.now) self.old)) }
-        ensures message { IfOk result (λ message. message ≡ message_by chunk (head_of bytes.now) (drop 16 bytes.now) self.old) }
+        ensures state { OnOk result (self.new
+            ≡ with_chunk chunk (head_of bytes.now) (drop 16 bytes.now) (numbered (head_of bytes.now) self.old)) }
+        ensures message { IfOk result (λ message.
+            message ≡ message_by chunk (head_of bytes.now) (drop 16 bytes.now) self.old) }
         ensures unchanged { OnErr result (self.new ≡ self.old) }
     {
         let head = ChunkHead::of(bytes);

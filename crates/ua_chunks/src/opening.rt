@@ -1,6 +1,7 @@
 ghost use Rattle.std.specs.Prelude.{◌≡◌};
 ghost use Rattle.ua_values.specs.Reading.{Gives, Moves, input};
-ghost use Rattle.ua_chunks.specs.Bodies.{IsInFront, IsLeftOf, IsOpn, opn_head_at, opn_of, policy, policy_at, value_of};
+ghost use Rattle.ua_chunks.specs.Bodies.{IsInFront, IsLeftOf, IsOpn, opn_head_at, opn_of, policy, policy_at};
+ghost use Rattle.ua_chunks.specs.Bodies.{value_of};
 
 use crate::body::Body;
 use std::alloc::Global;

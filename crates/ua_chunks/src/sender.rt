@@ -2,7 +2,10 @@ ghost use Rattle.std.specs.Prelude.{◌≡◌, ◌≤◌, ◌<◌, ◌+◌, ◌^
 ghost use Rattle.ua_chunks.specs.declared.frame.Kind.TheVariants as kind;
 ghost use Rattle.ua_values.specs.Written.{written_text};
 ghost use Rattle.ua_chunks.specs.Bodies.{written_opn_head};
-ghost use Rattle.ua_chunks.specs.Sending.{IsSending, MayPut, Puts, Sending, after_parts, after_put, limit_of, limited, message_parts, new_sending, none_policy, opn_head_of, opn_part, part, part_bytes, parts_bytes, put_bytes, in_chunk, with_limits, written_head};
+ghost use Rattle.ua_chunks.specs.Sending.{IsSending, MayPut, Puts, Sending, after_parts, after_put, limit_of};
+ghost use Rattle.ua_chunks.specs.Sending.{limited, message_parts, new_sending, none_policy, opn_head_of};
+ghost use Rattle.ua_chunks.specs.Sending.{opn_part, part, part_bytes, parts_bytes, put_bytes, in_chunk};
+ghost use Rattle.ua_chunks.specs.Sending.{with_limits, written_head};
 
 use crate::frame::{Chunk, Kind, MOST_FRAME};
 use crate::message::{MOST_CHUNKS, MOST_MESSAGE};
@@ -47,7 +50,14 @@ impl Model for Sender {
 
     ghost Value = { Sending };
 
-    ghost view = { λ s. record { channel = s.channel; token = s.token; size = s.size; max_message = s.max_message; max_chunks = s.max_chunks; next = s.next } };
+    ghost view = { λ s. record {
+      channel = s.channel;
+      token = s.token;
+      size = s.size;
+      max_message = s.max_message;
+      max_chunks = s.max_chunks;
+      next = s.next;
+    } };
 
     ghost invariant = { λ s. (8192 ≤ s.size) × (s.size ≤ 65536) × (s.next ≤ 4294966272) };
 }
@@ -82,7 +92,8 @@ fn put_null(to: &mut Vec<u8>) -> Result<(), OutOfMemory>
 
 impl Sender {
     /// Puts chunks of a channel with this token, in frames of at most `size` bytes; a size above 65,536 counts as
-    /// 65,536. The other end takes `max_message` bytes and `max_chunks` chunks of a message; 0 says that it names no limit.
+    /// 65,536. The other end takes `max_message` bytes and `max_chunks` chunks of a message; 0 says that it names no
+    /// limit.
     pub fn new(channel: u32, token: u32, size: u32, max_message: u32, max_chunks: u32) -> Sender
         requires { 8192 ≤ size }
         ensures { result ≡ new_sending channel token size max_message max_chunks }
@@ -149,9 +160,8 @@ impl Sender {
     ///
     /// # Errors
     ///
-    /// `TooLarge` where the body has more bytes than a message may have: the least of 1,048,576, what the other end takes
-    /// of a message, and what 64 chunks have room for, or as many as the other end takes. A message that was refused uses
-    /// up no sequence number.
+    /// `TooLarge` where the body has more bytes than a message may have, as `most_body` says. A message that was
+    /// refused uses up no sequence number.
     pub fn put(
         &mut self,
         alloc: Global,
@@ -188,7 +198,8 @@ impl Sender {
     ) -> Result<u32, OutOfMemory>
         requires { MayPut kind (length body.now) }
         ensures ok { OnOk result (to.new.items ≡ to.old.items ++ put_bytes kind request body.now self.now) }
-        ensures next { IfOk result (λ next. record self.now { next = next } ≡ after_put kind request body.now self.now) }
+        ensures next { IfOk result (λ next.
+            record self.now { next = next } ≡ after_put kind request body.now self.now) }
         ensures number { IfOk result (λ next. next ≤ 4294966272) }
         ensures unchanged { OnErr result (to.new.items ≡ to.old.items) }
     {
@@ -209,8 +220,10 @@ impl Sender {
         body: &[u8],
         to: &mut Vec<u8>,
     ) -> Result<u32, OutOfMemory>
-        ensures ok { OnOk result (to.new.items ≡ to.old.items ++ parts_bytes (message_parts kind request body.now self.now)) }
-        ensures next { IfOk result (λ next. record self.now { next = next } ≡ after_parts (message_parts kind request body.now self.now) self.now) }
+        ensures ok { OnOk result (to.new.items
+            ≡ to.old.items ++ parts_bytes (message_parts kind request body.now self.now)) }
+        ensures next { IfOk result (λ next. record self.now { next = next }
+            ≡ after_parts (message_parts kind request body.now self.now) self.now) }
         ensures number { IfOk result (λ next. next ≤ 4294966272) }
     {
         let most = self.in_chunk();
@@ -237,7 +250,8 @@ impl Sender {
         to: &mut Vec<u8>,
     ) -> Result<(), OutOfMemory>
         requires { length bytes.now ≤ 65512 }
-        ensures { OnOk result (to.new.items ≡ to.old.items ++ part_bytes (part kind chunk request bytes.now (record self.now { next = number }))) }
+        ensures { OnOk result (to.new.items ≡ to.old.items
+            ++ part_bytes (part kind chunk request bytes.now (record self.now { next = number }))) }
     {
         put_start(kind, chunk, 16 + bytes.len(), to)?;
         self.put_head(number, request, to)?;
@@ -247,7 +261,8 @@ impl Sender {
 
     /// Appends what stands in front of a chunk's bytes.
     fn put_head(&self, number: u32, request: u32, to: &mut Vec<u8>) -> Result<(), OutOfMemory>
-        ensures { OnOk result (to.new.items ≡ to.old.items ++ written_head request (record self.now { next = number })) }
+        ensures { OnOk result (to.new.items
+            ≡ to.old.items ++ written_head request (record self.now { next = number })) }
     {
         write_uint32(self.channel, to)?;
         write_uint32(self.token, to)?;
@@ -266,7 +281,8 @@ impl Sender {
     ) -> Result<u32, OutOfMemory>
         requires { length body.now ≤ 4096 }
         ensures ok { OnOk result (to.new.items ≡ to.old.items ++ part_bytes (opn_part request body.now self.now)) }
-        ensures next { IfOk result (λ next. record self.now { next = next } ≡ after_put kind.Opn request body.now self.now) }
+        ensures next { IfOk result (λ next.
+            record self.now { next = next } ≡ after_put kind.Opn request body.now self.now) }
         ensures number { IfOk result (λ next. next ≤ 4294966272) }
     {
         let mut bytes = Vec::new(alloc);

@@ -1,5 +1,6 @@
 use Rattle.ua_chunks.specs.Assembly.{new_assembly}
-use Rattle.ua_chunks.proofs.Putting.{all_come, all_framed, all_small, in_step_new, put_brings, whole_arrives}
+use Rattle.ua_chunks.proofs.Leading.{put_begins}
+use Rattle.ua_chunks.proofs.Putting.{all_come, all_framed, all_small, comes, in_step_new, put_brings, whole_arrives}
 use Rattle.ua_chunks.proofs.laws.what_is_put_arrives.Goals as goal
 
 pub returns-clause-frames : goal.returns-clause-frames
@@ -22,3 +23,12 @@ returns-clause-whole c = whole_arrives
 
 pub returns-clause-fed : goal.returns-clause-fed
 returns-clause-fed c = put_brings
+
+pub returns-clause-leads : goal.returns-clause-leads
+returns-clause-leads c = λ place m s a sends step put. (comes place m s a sends step put).leads
+
+pub returns-clause-tokens : goal.returns-clause-tokens
+returns-clause-tokens c = λ place m s a sends step put. (comes place m s a sends step put).tokens
+
+pub returns-clause-front : goal.returns-clause-front
+returns-clause-front c = put_begins
