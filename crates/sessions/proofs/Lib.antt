@@ -3,6 +3,7 @@ pub mod Firsts
 pub mod Moments
 pub mod Owners
 pub mod Room
+pub mod StaysSound
 pub mod Steps
 pub mod Tidy
 pub mod TokenLemmas

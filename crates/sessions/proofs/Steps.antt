@@ -61,7 +61,7 @@ sound_kept state p h =
     (given_kept p state.last_counter state.sessions h.given) (omega arith) (All-filter p IsTidy state.sessions h.tidy)
 
 -- one session changes
-sound_first : (state : SessionsState) (test : Session → Bool) (change : Session → Session) → IsSound state → Numbers change
+pub sound_first : (state : SessionsState) (test : Session → Bool) (change : Session → Session) → IsSound state → Numbers change
     → ((session : Session) → IsTidy session → IsTidy (change session))
     → IsSound (record state { sessions = at_first test change state.sessions })
 sound_first state test change h numbers keeps =
@@ -102,7 +102,7 @@ neither : (first second : Bool) → (first || second) ≡ false → (first ≡ f
 neither true second is = absurd cc
 neither false second is = (refl, is)
 
-sound_created : (state : SessionsState) (conn : ℕ) (uri : Option (List ℕ)) (timeout now : ℕ) → IsSound state → is_full state ≡ false
+pub sound_created : (state : SessionsState) (conn : ℕ) (uri : Option (List ℕ)) (timeout now : ℕ) → IsSound state → is_full state ≡ false
     → IsSound (created conn uri timeout now state)
 sound_created state conn uri timeout now h room =
     let free = neither (not (nat_lt (length state.sessions) 16) && are_bound state.sessions) (state.last_counter == 2 ^ 32 - 1) room in

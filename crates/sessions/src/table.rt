@@ -1,6 +1,7 @@
 ghost use Rattle.std.specs.Prelude.{◌≡◌, ◌≢◌, ◌<◌, ◌+◌, [], ◌∷◌, ◌++◌, false, true, not, None, length, position, filter, OnOk, OnErr, IfOk, IfErr, IfSome, IsSome, map};
 ghost use Rattle.ua_base.specs.Status.{bad_too_many_sessions};
 ghost use Rattle.sessions.specs.Session.{has_token, is_numbered, is_unbound, lasts_past, unbound_from};
+ghost use Rattle.sessions.specs.Sound.{IsSound};
 ghost use Rattle.sessions.specs.Table.{activate_answer, activated, are_bound, bound_answer, check_answer, closed, conn_of, created, disowned, driven_out_of, due_of, expired, is_full, keeps, lives, no_sessions, oldest_of, owned, owner_of, ownership_of, parked, place_to_leave, requested, session_at, transfer_answer, transferred, unbound, unparked, waits, with_room, without_id};
 
 use crate::fault::SessionFault;
@@ -127,6 +128,7 @@ pub struct Sessions {
 }
 
 impl Model for Sessions {
+    ghost use Rattle.sessions.specs.Sound.{IsSound};
     ghost use Rattle.sessions.specs.State.{SessionsState};
 
     ghost Value = { SessionsState };
@@ -137,6 +139,13 @@ impl Model for Sessions {
       sessions = s.sessions.items;
       owned = s.owned.items;
     } };
+
+    ghost invariant = { λ s. IsSound (record {
+      boot = s.boot;
+      last_counter = s.last_counter;
+      sessions = s.sessions.items;
+      owned = s.owned.items;
+    }) };
 }
 
 impl Sessions {
@@ -152,8 +161,7 @@ impl Sessions {
         }
     }
 
-    /// A server that gave so many sessions before, all of which are no more.
-    #[cfg(test)]
+    /// A server that gave so many sessions before in this life, all of which are no more. It takes no memory.
     pub fn after(alloc: Global, boot: u16, last_counter: u32) -> Sessions
         ensures { result ≡ record (no_sessions boot) { last_counter = last_counter } }
     {
@@ -163,6 +171,15 @@ impl Sessions {
             sessions: Vec::new(alloc),
             owned: Vec::new(alloc),
         }
+    }
+
+    /// What always holds of the sessions, for a caller to rely on: no two have one counter, at most 16 exist, at most 16
+    /// Publishes of each are queued and none of one that is bound to no connection, each owner exists, and no subscription
+    /// is kept twice. It does nothing.
+    pub fn sound(&self)
+        ensures { IsSound self.now }
+    {
+        let _ = &self.sessions;
     }
 
     fn is_full(&self) -> bool
@@ -196,7 +213,7 @@ impl Sessions {
         }
         let counter = self.last_counter + 1;
         let session = Session::new(alloc, counter, conn, uri, timeout, now);
-        give(&mut self.sessions, session).map_err(|_| SessionFault::OutOfMemory)?;
+        give(&mut self.sessions, session)?;
         self.last_counter = counter;
         keep_owners_among(&mut self.owned, &self.sessions);
         Ok(counter)
