@@ -56,7 +56,8 @@ abbrev pub activated_answer : Session → Result ℕ ℕ
 activated_answer session = if session.activated then Ok session.counter else Err bad_session_not_activated
 
 abbrev pub check_answer : ℕ → Session → Result ℕ ℕ
-check_answer conn session = if is_bound_to conn session then activated_answer session else Err bad_secure_channel_id_invalid
+check_answer conn session =
+    if is_bound_to conn session then activated_answer session else Err bad_secure_channel_id_invalid
 
 -- a first activation comes on the connection on which the session was made; a later one may come on any (5.6.3)
 abbrev pub may_activate : ℕ → Session → Bool
@@ -72,7 +73,8 @@ queued_on conn session = if is_bound_to conn session then session.queued else []
 
 -- the session after an activation (5.6.3)
 abbrev pub activated_on : ℕ → ℕ → Session → Session
-activated_on conn now session = record session { conn = Some conn; activated = true; last = now; queued = queued_on conn session }
+activated_on conn now session =
+    record session { conn = Some conn; activated = true; last = now; queued = queued_on conn session }
 
 abbrev pub activated : ℕ → ℕ → Session → Session
 activated conn now session = if may_activate conn session then activated_on conn now session else session

@@ -41,4 +41,5 @@ pub record IsSound (state : SessionsState) : Type 0 where
 -- the session of this counter is unbound, and no other unbound one has a lower counter
 pub record IsOldestUnbound (counter : ℕ) (session : Session) (sessions : List Session) : Type 0 where
   pub unbound : is_unbound session ≡ true
-  pub oldest : (other : ℕ) (another : Session) → session_at other sessions ≡ Some another → is_unbound another ≡ true → counter ≤ other
+  pub oldest : (other : ℕ) (another : Session) → session_at other sessions ≡ Some another → is_unbound another ≡ true
+      → counter ≤ other

@@ -35,7 +35,8 @@ with_change_at counter change state = record state { sessions = at_first (is_num
 
 -- the session of this token changes
 abbrev pub with_change_of : Option (List ℕ) → (Session → Session) → SessionsState → SessionsState
-with_change_of token change state = record state { sessions = at_first (has_token state.boot token) change state.sessions }
+with_change_of token change state =
+    record state { sessions = at_first (has_token state.boot token) change state.sessions }
 
 -- whether this session exists
 abbrev pub lives : ℕ → List Session → Bool
@@ -72,7 +73,8 @@ with_room sessions = if nat_lt (length sessions) 16 then sessions else without_f
 
 -- no session more is given where the most exist and each is bound, or where the counter stands at its last value
 abbrev pub is_full : SessionsState → Bool
-is_full state = (not (nat_lt (length state.sessions) 16) && are_bound state.sessions) || (state.last_counter == 2 ^ 32 - 1)
+is_full state =
+    (not (nat_lt (length state.sessions) 16) && are_bound state.sessions) || (state.last_counter == 2 ^ 32 - 1)
 
 -- CreateSession (5.6.2)
 abbrev pub created : ℕ → Option (List ℕ) → ℕ → ℕ → SessionsState → SessionsState
@@ -87,7 +89,8 @@ answer_of unknown answer (Some session) = answer session
 
 -- ActivateSession (5.6.3)
 abbrev pub activate_answer : Option (List ℕ) → ℕ → SessionsState → Result ℕ SessionFault
-activate_answer token conn state = answer_of (Code bad_session_id_invalid) (one.activate_answer conn) (session_of token state)
+activate_answer token conn state =
+    answer_of (Code bad_session_id_invalid) (one.activate_answer conn) (session_of token state)
 
 abbrev pub activated : Option (List ℕ) → ℕ → ℕ → SessionsState → SessionsState
 activated token conn now state = with_change_of token (one.activated conn now) state

@@ -12,9 +12,8 @@ ghost use Rattle.sessions.specs.State.{SessionsState};
 ghost use Rattle.sessions.specs.Table.{closed, created, due_of, expired, keeps, lives, no_sessions, owned, ownership_of, session_at, session_of, transfer_answer, transferred};
 ghost use Rattle.sessions.specs.Token.{token_of};
 
-/// After any calls no two sessions have one counter, at most 16 exist, at most 16 Publishes of
-/// each are queued and none of one that is bound to no connection, each owner exists, and no subscription is kept twice.
-/// A Publish is queued only for a session that is bound, as it is where `check` has just passed.
+/// After any calls no two sessions have one counter, at most 16 exist, at most 16 Publishes of each are queued and none
+/// of one that is bound to no connection, each owner exists, and no subscription is kept twice. A Publish is queued only for a session that is bound, as it is where `check` has just passed.
 pub fn stay_sound()
     ensures start { (boot : ℕ) → IsSound (no_sessions boot) }
     ensures step { (call : Call) (state : SessionsState) → IsAllowed call state → IsSound state
@@ -36,7 +35,8 @@ pub fn tokens_tell_apart()
     ensures found { (counter : ℕ) (state : SessionsState) → counter < 2 ^ 32 → IsSound state
         → session_of (Some (token_of state.boot counter)) state ≡ session_at counter state.sessions }
     ensures stranger { (boot counter : ℕ) (state : SessionsState)
-        → boot < 2 ^ 16 → state.boot < 2 ^ 16 → boot ≢ state.boot → session_of (Some (token_of boot counter)) state ≡ None }
+        → boot < 2 ^ 16 → state.boot < 2 ^ 16 → boot ≢ state.boot
+        → session_of (Some (token_of boot counter)) state ≡ None }
     ensures length { (token : List ℕ) (state : SessionsState) → length token ≢ 6
         → session_of (Some token) state ≡ None }
     ensures null { (state : SessionsState) → session_of None state ≡ None }
@@ -66,12 +66,13 @@ pub fn owners_leave()
 
 /// A session that is made drives out none that is bound, and of the others the one of lowest counter.
 pub fn oldest_unbound_leaves()
-    ensures stays { (counter conn : ℕ) (uri : Option (List ℕ)) (timeout now : ℕ) (session : Session) (state : SessionsState)
-        → session_at counter state.sessions ≡ Some session → is_unbound session ≡ false
+    ensures stays { (counter conn : ℕ) (uri : Option (List ℕ)) (timeout now : ℕ) (session : Session)
+        (state : SessionsState) → session_at counter state.sessions ≡ Some session → is_unbound session ≡ false
         → session_at counter (created conn uri timeout now state).sessions ≡ Some session }
-    ensures oldest { (counter conn : ℕ) (uri : Option (List ℕ)) (timeout now : ℕ) (session : Session) (state : SessionsState)
-        → IsSound state → session_at counter state.sessions ≡ Some session
-        → lives counter (created conn uri timeout now state).sessions ≡ false → IsOldestUnbound counter session state.sessions }
+    ensures oldest { (counter conn : ℕ) (uri : Option (List ℕ)) (timeout now : ℕ) (session : Session)
+        (state : SessionsState) → IsSound state → session_at counter state.sessions ≡ Some session
+        → lives counter (created conn uri timeout now state).sessions ≡ false
+        → IsOldestUnbound counter session state.sessions }
 {}
 
 /// A subscription goes from one session to another exactly where they are of one client, by their ApplicationUris, even

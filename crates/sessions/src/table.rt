@@ -173,9 +173,9 @@ impl Sessions {
         }
     }
 
-    /// What always holds of the sessions, for a caller to rely on: no two have one counter, at most 16 exist, at most 16
-    /// Publishes of each are queued and none of one that is bound to no connection, each owner exists, and no subscription
-    /// is kept twice. It does nothing.
+    /// What always holds of the sessions, for a caller to rely on: no two have one counter, at most 16 exist, at most
+    /// 16 Publishes of each are queued and none of one that is bound to no connection, each owner exists, and no
+    /// subscription is kept twice. It does nothing when it runs.
     pub fn sound(&self)
         ensures { IsSound self.now }
     {
@@ -336,8 +336,8 @@ impl Sessions {
         drop_ownership(&mut self.owned, id);
     }
 
-    /// Gives a subscription to the session `to`, as TransferSubscriptions asks (OPC 10000-4, 5.13.7). It takes no memory:
-    /// the ApplicationUri that is kept is that of `to`.
+    /// Gives a subscription to the session `to`, as TransferSubscriptions asks (OPC 10000-4, 5.13.7). It takes no
+    /// memory: the ApplicationUri that is kept is that of `to`.
     ///
     /// # Errors
     /// `Code` with `Bad_SubscriptionIdInvalid` exactly where nothing is kept of the subscription, or where the session
