@@ -6,7 +6,7 @@ use Rattle.std.proofs.lemmas.Bool.Decides.{nat_tests}
 use Rattle.ua_values.specs.declared.node.NodeId.{NodeId}
 use Rattle.ua_values.specs.declared.node.NodeId.TheVariants as id
 use Rattle.std.proofs.lemmas.Bool.{ne_eqb}
-use Rattle.ua_base.specs.declared.status.TheConstants.{BAD_NODE_ID_UNKNOWN, BAD_ATTRIBUTE_ID_INVALID}
+use Rattle.ua_base.specs.Status.{bad_node_id_unknown, bad_attribute_id_invalid}
 use Rattle.redundancy_nodes.specs.declared.node.Node.{Node}
 use Rattle.redundancy_nodes.specs.declared.nodes.Nodes.{Nodes}
 use Rattle.redundancy_nodes.specs.Read.{checked_node, read_checked, read_of}
@@ -67,19 +67,19 @@ known items (id.Guid namespace name) = (λ some. absurd cc, λ none. absurd none
 known items (id.Opaque namespace name) = (λ some. absurd cc, λ none. absurd none)
 
 -- the answers, by whether there is such a node
-refused_by : (nodes : Nodes) (attribute : ℕ) (o : Option Node) → (IsSome o → ⊥) → read_checked nodes (checked_node attribute o) ≡ Err BAD_NODE_ID_UNKNOWN
+refused_by : (nodes : Nodes) (attribute : ℕ) (o : Option Node) → (IsSome o → ⊥) → read_checked nodes (checked_node attribute o) ≡ Err bad_node_id_unknown
 refused_by nodes attribute None none = refl
 refused_by nodes attribute (Some node) none = absurd (none refl)
 
-pub refused : (nodes : Nodes) (i : NodeId) (attribute : ℕ) → (HasValue nodes.items i → ⊥) → read_of nodes i attribute ≡ Err BAD_NODE_ID_UNKNOWN
+pub refused : (nodes : Nodes) (i : NodeId) (attribute : ℕ) → (HasValue nodes.items i → ⊥) → read_of nodes i attribute ≡ Err bad_node_id_unknown
 refused nodes i attribute none = refused_by nodes attribute (node_of nodes.items i) (λ some. none ((known nodes.items i).0 some))
 
 not_read_by : (nodes : Nodes) (attribute : ℕ) (o : Option Node) → IsSome o → (attribute == 13) ≡ false
-    → read_checked nodes (checked_node attribute o) ≡ Err BAD_ATTRIBUTE_ID_INVALID
+    → read_checked nodes (checked_node attribute o) ≡ Err bad_attribute_id_invalid
 not_read_by nodes attribute None some is = absurd cc
 not_read_by nodes attribute (Some node) some is = rw is refl
 
-pub not_read : (nodes : Nodes) (i : NodeId) (attribute : ℕ) → HasValue nodes.items i → attribute ≢ 13 → read_of nodes i attribute ≡ Err BAD_ATTRIBUTE_ID_INVALID
+pub not_read : (nodes : Nodes) (i : NodeId) (attribute : ℕ) → HasValue nodes.items i → attribute ≢ 13 → read_of nodes i attribute ≡ Err bad_attribute_id_invalid
 not_read nodes i attribute has other =
     not_read_by nodes attribute (node_of nodes.items i) ((known nodes.items i).1 has) (ne_eqb attribute 13 other)
 

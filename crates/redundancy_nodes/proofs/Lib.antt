@@ -1,2 +1,3 @@
 pub mod Known
+pub mod Newest
 pub mod Sent

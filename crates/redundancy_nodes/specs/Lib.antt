@@ -1,4 +1,5 @@
 pub mod Class
+pub mod Current
 pub mod Node
 pub mod Texts
 pub mod Values

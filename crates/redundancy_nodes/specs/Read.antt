@@ -1,6 +1,6 @@
 -- What a read of a node answers.
 use Rattle.std.specs.Prelude.{◌≡◌, ℕ, ◌==◌, List, Option, Some, None, Result, Ok, Err, if◌then◌else◌}
-use Rattle.ua_base.specs.declared.status.TheConstants.{BAD_NODE_ID_UNKNOWN, BAD_ATTRIBUTE_ID_INVALID}
+use Rattle.ua_base.specs.Status.{bad_node_id_unknown, bad_attribute_id_invalid}
 use Rattle.ua_values.specs.declared.node.NodeId.{NodeId}
 use Rattle.ua_variants.specs.declared.variant.Variant.{Variant}
 use Rattle.ua_variants.specs.declared.variant.Stamped.{Stamped}
@@ -14,8 +14,8 @@ use Rattle.redundancy_nodes.specs.Values.{value_of}
 
 -- only the attribute 13, Value, is read
 abbrev pub checked_node : ℕ → Option Node → Result Node ℕ
-checked_node attribute None = Err BAD_NODE_ID_UNKNOWN
-checked_node attribute (Some node) = if attribute == 13 then Ok node else Err BAD_ATTRIBUTE_ID_INVALID
+checked_node attribute None = Err bad_node_id_unknown
+checked_node attribute (Some node) = if attribute == 13 then Ok node else Err bad_attribute_id_invalid
 
 -- an unknown node is answered before a wrong attribute
 abbrev pub checked : ℕ → NodeId → ℕ → Result Node ℕ

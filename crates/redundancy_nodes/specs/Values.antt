@@ -1,5 +1,5 @@
 -- The value of each node.
-use Rattle.std.specs.Prelude.{ℕ, ℤ, pos, List, Option, Some, None}
+use Rattle.std.specs.Prelude.{ℕ, ℤ, pos, ◌==◌, List, Option, Some, None, if◌then◌else◌}
 use Rattle.set_model.specs.declared.source.Change.{Change}
 use Rattle.set_model.specs.Source.{last_of}
 use Rattle.ua_variants.specs.declared.variant.Scalar.TheVariants as scalar
@@ -12,23 +12,35 @@ use Rattle.redundancy_nodes.specs.declared.node.Node.TheVariants as node
 use Rattle.redundancy_nodes.specs.declared.nodes.Nodes.{Nodes}
 use Rattle.redundancy_nodes.specs.Texts.{servers_of, namespaces_of, uris_of}
 
--- a value with this source time, if there is one, and no other time and no status
-abbrev pub sampled : Option Variant → Option ℤ → Stamped Variant
-sampled value time =
-    record { value = value; status = None; source_timestamp = time; source_picoseconds = None; server_timestamp = None; server_picoseconds = None }
+-- a value with this source time and picoseconds, if there are any, and no other time and no status
+abbrev pub sampled : Option Variant → Option ℤ → Option ℕ → Stamped Variant
+sampled value time pico = record {
+  value = value;
+  status = None;
+  source_timestamp = time;
+  source_picoseconds = pico;
+  server_timestamp = None;
+  server_picoseconds = None;
+}
 
 -- a value of namespace 0 has no source time
 abbrev pub timeless : Variant → Stamped Variant
-timeless value = sampled (Some value) None
+timeless value = sampled (Some value) None None
 
 -- an array of texts, in one dimension
 abbrev pub texts_value : List (Option (List ℕ)) → Stamped Variant
 texts_value texts = timeless (variant.Array (array.String texts) None)
 
--- an item's current value is an Int64 with its source time; before the first change it holds nothing
+-- no picoseconds are not told
+abbrev pub told_pico : ℕ → Option ℕ
+told_pico pico = if pico == 0 then None else Some pico
+
+-- an item's current value is an Int64 with its source time, and its picoseconds where they aren't 0; before the first
+-- change it holds nothing
 abbrev pub item_value : Option Change → Stamped Variant
-item_value None = sampled None None
-item_value (Some change) = sampled (Some (variant.Scalar (scalar.Int64 change.value))) (Some change.time)
+item_value None = sampled None None None
+item_value (Some change) =
+    sampled (Some (variant.Scalar (scalar.Int64 change.value))) (Some change.time) (told_pico change.pico)
 
 abbrev pub value_of : Nodes → Node → Stamped Variant
 value_of nodes node.ServerArray = texts_value (servers_of nodes.uri)

@@ -1,8 +1,10 @@
-ghost use Rattle.std.specs.Prelude.{◌≡◌};
+ghost use Rattle.std.specs.Prelude.{◌≡◌, IsOk, IsSome, OnErr, OnOk, map};
 ghost use Rattle.set_model.specs.Source.{last_of};
+ghost use Rattle.redundancy_nodes.specs.Current.{renewed, with_newest};
 
 use set_model::Change;
 use std::marker::Model;
+use ua_base::OutOfMemory;
 
 /// The changes that are the items' current values. Where an item has several, its last one counts.
 #[derive(Debug, Drop)]
@@ -17,6 +19,24 @@ impl Model for CurrentChanges {
     ghost Value = { List Change };
 
     ghost view = { λ c. c.list.items };
+}
+
+/// Puts a change in the place of one, where that is of the same item.
+fn renew(known: &mut Change, change: Change)
+    ensures { known.new ≡ renewed change known.old }
+{
+    if known.item == change.item {
+        *known = change;
+    }
+}
+
+/// Puts a change in the place of those of its item.
+fn renew_each(list: &mut Vec<Change>, change: Change)
+    ensures { list.new.items ≡ map (renewed change) list.old.items }
+{
+    for known in list.iter_mut() {
+        renew(known, change);
+    }
 }
 
 impl CurrentChanges {
@@ -39,6 +59,21 @@ impl CurrentChanges {
         ensures { result.items ≡ self }
     {
         self.list
+    }
+
+    /// Puts an item's newest change in the place of the one before, or behind all others where the item had none. Only
+    /// then the list grows, and takes memory.
+    pub fn put(&mut self, change: Change) -> Result<(), OutOfMemory>
+        ensures put { OnOk result (self.new ≡ with_newest change self.old) }
+        ensures in_place { IsSome (last_of change.item self.old) → IsOk result }
+        ensures unchanged { OnErr result (self.new ≡ self.old) }
+    {
+        if self.of_item(change.item).is_some() {
+            renew_each(&mut self.list, change);
+        } else {
+            self.list.push(change)?;
+        }
+        Ok(())
     }
 
     /// The current change of an item, if it has one.

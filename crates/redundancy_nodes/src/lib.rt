@@ -14,6 +14,9 @@ mod values;
 
 pub use class::{Class, class_of};
 pub use current::CurrentChanges;
-pub use laws::{classes_part_the_levels, nodes_are_known, refusals_are_in_order, values_are_sent};
+pub use laws::{
+    classes_part_the_levels, newest_changes_are_current, nodes_are_known, refusals_are_in_order,
+    values_are_sent,
+};
 pub use member::{Member, Members};
 pub use nodes::{NodeFault, Nodes, VALUE};

@@ -1,7 +1,8 @@
-ghost use Rattle.std.specs.Prelude.{◌≡◌, ◌↔◌, ℕ, Err, IfOk};
+ghost use Rattle.std.specs.Prelude.{◌≡◌, ◌↔◌, ℕ, List, Err, IfOk};
 ghost use Rattle.redundancy_nodes.specs.declared.nodes.NodeFault.TheVariants as faults;
-ghost use Rattle.redundancy_nodes.specs.Read.{Reads, checked, read_of};
+ghost use Rattle.redundancy_nodes.specs.Read.{Reads, Sends, checked, read_of};
 ghost use Rattle.redundancy_nodes.specs.Values.{value_of};
+ghost use Rattle.ua_variants.specs.Spelling.{written_data_value};
 
 use crate::current::CurrentChanges;
 use crate::member::Members;
@@ -97,7 +98,8 @@ impl Nodes {
     /// The attribute of a node, of which only `VALUE` is read (OPC 10000-4, 5.10.2). The nodes of namespace 0 are
     /// ServerArray, NamespaceArray, StartTime, CurrentTime, State, ServiceLevel, RedundancySupport and ServerUriArray,
     /// whose values have no times. Namespace 2 has the items under their numbers; an item's value is an Int64 with its
-    /// source time, and before its first change there is no value.
+    /// source time, and with its picoseconds where they are not 0; before its first change there is no value.
+    /// `write_data_value` writes what the law `values_are_sent` says of each.
     ///
     /// # Errors
     /// `Code` with Bad_NodeIdUnknown exactly where the id is no such node's, and else with Bad_AttributeIdInvalid exactly
@@ -109,7 +111,10 @@ impl Nodes {
         attribute: u32,
     ) -> Result<DataValue, NodeFault>
         ensures read { Reads result (read_of self.entry.now id.now attribute) }
-        ensures refused { (code : ℕ) → (result ≡ Err (faults.Code code)) ↔ (read_of self.entry.now id.now attribute ≡ Err code) }
+        ensures sent { (bytes : List ℕ) → attribute ≡ 13 → Sends self.entry.now id.now bytes
+            → IfOk result (λ value. written_data_value value ≡ bytes) }
+        ensures refused { (code : ℕ)
+            → (result ≡ Err (faults.Code code)) ↔ (read_of self.entry.now id.now attribute ≡ Err code) }
     {
         let node = self.checked(id, attribute).map_err(NodeFault::Code)?;
         let value = self.value(alloc, node)?;

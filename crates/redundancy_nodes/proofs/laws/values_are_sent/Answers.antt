@@ -1,7 +1,7 @@
 use Rattle.std.proofs.Common.{◌∙◌, Ok, None, Some, ap, arith, refl}
 use Rattle.redundancy_nodes.specs.Values.{item_value, value_of}
 use Rattle.redundancy_nodes.specs.declared.node.Node.TheVariants as node
-use Rattle.redundancy_nodes.proofs.Sent.{byte_sent, change_sent, item_read, support_sent, texts_sent, time_sent}
+use Rattle.redundancy_nodes.proofs.Sent.{byte_sent, change_sent, item_read, pico_sent, support_sent, texts_sent, time_sent}
 use Rattle.redundancy_nodes.proofs.laws.values_are_sent.Goals as goal
 
 pub returns-clause-server_array : goal.returns-clause-server_array
@@ -29,8 +29,12 @@ pub returns-clause-server_uri_array : goal.returns-clause-server_uri_array
 returns-clause-server_uri_array c = λ nodes. (value_of nodes node.ServerUriArray, refl, texts_sent _)
 
 pub returns-clause-item : goal.returns-clause-item
-returns-clause-item c = λ nodes number change least most is.
-    (item_value (Some change), item_read nodes number least most ∙ ap (λ o. Ok (item_value o)) is, change_sent change)
+returns-clause-item c = λ nodes number change least most is none.
+    (item_value (Some change), item_read nodes number least most ∙ ap (λ o. Ok (item_value o)) is, change_sent change none)
+
+pub returns-clause-item_with_pico : goal.returns-clause-item_with_pico
+returns-clause-item_with_pico c = λ nodes number change least most is some.
+    (item_value (Some change), item_read nodes number least most ∙ ap (λ o. Ok (item_value o)) is, pico_sent change some)
 
 pub returns-clause-no_change : goal.returns-clause-no_change
 returns-clause-no_change c = λ nodes number least most is.
