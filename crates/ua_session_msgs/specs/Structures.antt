@@ -12,7 +12,7 @@ use Rattle.ua_session_msgs.specs.declared.discovery.GetEndpointsRequest.{GetEndp
 use Rattle.ua_session_msgs.specs.declared.discovery.GetEndpointsResponse.{GetEndpointsResponse}
 use Rattle.ua_session_msgs.specs.declared.session.SignatureData.{SignatureData}
 use Rattle.ua_session_msgs.specs.declared.session.SignedSoftwareCertificate.{SignedSoftwareCertificate}
-use Rattle.ua_session_msgs.specs.declared.session.AnonymousIdentityToken.{AnonymousIdentityToken}
+use Rattle.ua_session_msgs.specs.declared.identity.AnonymousIdentityToken.{AnonymousIdentityToken}
 use Rattle.ua_session_msgs.specs.declared.session.CreateSessionRequest.{CreateSessionRequest}
 use Rattle.ua_session_msgs.specs.declared.session.CreateSessionResponse.{CreateSessionResponse}
 use Rattle.ua_session_msgs.specs.declared.session.ActivateSessionRequest.{ActivateSessionRequest}

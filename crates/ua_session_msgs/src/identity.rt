@@ -1,13 +1,37 @@
+//! Who a session's user is.
+
 ghost use Rattle.std.specs.Prelude.{◌≡◌, IfOk};
 ghost use Rattle.ua_structures.specs.Body.{service, object_at, object_by, Answers, IsContentRead};
 ghost use Rattle.ua_session_msgs.specs.Numbers.{token_id};
 ghost use Rattle.ua_session_msgs.specs.Families.{token_put, identity_tokens};
 
-use crate::session::AnonymousIdentityToken;
 use std::alloc::Global;
 use ua_base::OutOfMemory;
-use ua_structures::{Body, BodyFault, read_content, write_content};
-use ua_values::{Cursor, Element, ExtensionObject, ValueFault};
+use ua_structures::{Body, BodyFault, put_fields, read_content, read_fields, write_content};
+use ua_values::{Cursor, Element, ExtensionObject, UaText, ValueFault};
+
+/// The identity of who tells none; it stands in an ExtensionObject (OPC 10000-4, 7.36.3).
+#[derive(Debug, Drop)]
+pub struct AnonymousIdentityToken {
+    pub policy_id: UaText,
+}
+
+#[tactic(auto, unfolding(crate::specs::Structures::an_anonymous_identity_token))]
+impl Element for AnonymousIdentityToken {
+    ghost use Rattle.ua_session_msgs.specs.Structures.{an_anonymous_identity_token};
+
+    ghost at = { an_anonymous_identity_token.at };
+
+    ghost written = { an_anonymous_identity_token.written };
+
+    fn read(alloc: Global, from: &mut Cursor<'_>) -> Result<AnonymousIdentityToken, ValueFault> {
+        read_fields!(alloc, from => policy_id)
+    }
+
+    fn put(&self, to: &mut Vec<u8>) -> Result<(), OutOfMemory> {
+        put_fields!(self, to => policy_id)
+    }
+}
 
 /// Which of these identities an object holds.
 #[derive(Clone, Copy, Debug, PartialEq, Eq)]

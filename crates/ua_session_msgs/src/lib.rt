@@ -19,16 +19,18 @@ pub use discovery::{
     ApplicationDescription, EndpointDescription, FindServersRequest, FindServersResponse,
     GetEndpointsRequest, GetEndpointsResponse, UserTokenPolicy,
 };
-pub use identity::{IdentityToken, IdentityTokenType, read_identity, write_identity};
+pub use identity::{
+    AnonymousIdentityToken, IdentityToken, IdentityTokenType, read_identity, write_identity,
+};
 pub use laws::{identity_tokens_are_held, session_replies_are_lawful, session_requests_are_lawful};
 pub use method::{CallMethodRequest, CallMethodResult, CallRequest, CallResponse};
 pub use reply::{SessionReply, SessionReplyType, read_reply, write_reply};
 pub use request::{SessionRequest, SessionRequestType, read_request, write_request};
 pub use session::{
-    ActivateSessionRequest, ActivateSessionResponse, AnonymousIdentityToken, CloseSessionRequest,
-    CreateSessionRequest, CreateSessionResponse, SignatureData, SignedSoftwareCertificate,
+    ActivateSessionRequest, ActivateSessionResponse, CloseSessionRequest, CreateSessionRequest,
+    CreateSessionResponse, SignatureData, SignedSoftwareCertificate,
 };
 pub use ua_structures::{
-    BodyFault, ReadValueId, RequestHeader, ResponseHeader, UaArray, UnusedDiagnostics,
-    UnusedOfRequest, UnusedOfResponse, read_header,
+    BodyFault, BodyType, ReadValueId, RequestHeader, ResponseHeader, UaArray, UnusedDiagnostics,
+    UnusedOfRequest, UnusedOfResponse, read_header, read_type,
 };

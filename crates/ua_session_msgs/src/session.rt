@@ -1,5 +1,7 @@
 //! Sessions.
 
+ghost use Rattle.std.specs.Prelude.{◌≡◌, None};
+
 use crate::discovery::{ApplicationDescription, EndpointDescription};
 use std::alloc::Global;
 use ua_base::OutOfMemory;
@@ -13,6 +15,18 @@ use ua_values::{Cursor, Element, ExtensionObject, NodeId, UaBytes, UaText, Value
 pub struct SignatureData {
     pub algorithm: UaText,
     pub signature: UaBytes,
+}
+
+impl SignatureData {
+    /// What stands where nothing is signed: a null algorithm and a null signature. It takes no memory.
+    pub fn blank() -> SignatureData
+        ensures { result ≡ record { algorithm = None; signature = None } }
+    {
+        SignatureData {
+            algorithm: UaText::null(),
+            signature: UaBytes::null(),
+        }
+    }
 }
 
 #[tactic(auto, unfolding(crate::specs::Structures::a_signature_data))]
@@ -53,29 +67,6 @@ impl Element for SignedSoftwareCertificate {
 
     fn put(&self, to: &mut Vec<u8>) -> Result<(), OutOfMemory> {
         put_fields!(self, to => certificate_data, signature)
-    }
-}
-
-/// The identity of who tells none; it stands in an ExtensionObject (OPC 10000-4, 7.36.3).
-#[derive(Debug, Drop)]
-pub struct AnonymousIdentityToken {
-    pub policy_id: UaText,
-}
-
-#[tactic(auto, unfolding(crate::specs::Structures::an_anonymous_identity_token))]
-impl Element for AnonymousIdentityToken {
-    ghost use Rattle.ua_session_msgs.specs.Structures.{an_anonymous_identity_token};
-
-    ghost at = { an_anonymous_identity_token.at };
-
-    ghost written = { an_anonymous_identity_token.written };
-
-    fn read(alloc: Global, from: &mut Cursor<'_>) -> Result<AnonymousIdentityToken, ValueFault> {
-        read_fields!(alloc, from => policy_id)
-    }
-
-    fn put(&self, to: &mut Vec<u8>) -> Result<(), OutOfMemory> {
-        put_fields!(self, to => policy_id)
     }
 }
 
