@@ -7,16 +7,16 @@ use Rattle.ua_sub_msgs.specs.declared.reply.SubReply.{SubReply}
 use Rattle.ua_sub_msgs.specs.declared.reply.SubReply.TheVariants as reply
 use Rattle.ua_sub_msgs.specs.declared.reply.SubReplyType.{SubReplyType}
 use Rattle.ua_sub_msgs.specs.declared.reply.SubReplyType.TheVariants as reply_type
-use Rattle.ua_sub_msgs.specs.declared.notice.Notification.{Notification}
-use Rattle.ua_sub_msgs.specs.declared.notice.Notification.TheVariants as notification
-use Rattle.ua_sub_msgs.specs.declared.notice.NotificationType.{NotificationType}
-use Rattle.ua_sub_msgs.specs.declared.notice.NotificationType.TheVariants as notification_type
+use Rattle.ua_sub_msgs.specs.declared.notification.Notification.{Notification}
+use Rattle.ua_sub_msgs.specs.declared.notification.Notification.TheVariants as notification
+use Rattle.ua_sub_msgs.specs.declared.notification.NotificationType.{NotificationType}
+use Rattle.ua_sub_msgs.specs.declared.notification.NotificationType.TheVariants as notification_type
 use Rattle.ua_sub_msgs.specs.declared.filter.Filter.{Filter}
 use Rattle.ua_sub_msgs.specs.declared.filter.Filter.TheVariants as filter
 use Rattle.ua_sub_msgs.specs.declared.filter.FilterType.{FilterType}
 use Rattle.ua_sub_msgs.specs.declared.filter.FilterType.TheVariants as filter_type
 use Rattle.ua_structures.specs.Body.{Case, case, Family, Put, put}
-use Rattle.ua_sub_msgs.specs.Structures.{a_create_monitored_items_request, a_create_monitored_items_response, a_create_subscription_request, a_create_subscription_response, a_data_change_filter, a_data_change_notification, a_delete_monitored_items_request, a_delete_monitored_items_response, a_delete_subscriptions_request, a_delete_subscriptions_response, a_modify_subscription_request, a_modify_subscription_response, a_publish_request, a_publish_response, a_republish_request, a_republish_response, a_set_monitoring_mode_request, a_set_monitoring_mode_response, a_set_publishing_mode_request, a_set_publishing_mode_response, a_status_change_notification, a_transfer_subscriptions_request, a_transfer_subscriptions_response}
+use Rattle.ua_sub_msgs.specs.Structures.{a_create_monitored_items_request, a_create_monitored_items_response, a_create_subscription_request, a_create_subscription_response, a_data_change_filter, a_data_change_notification, a_delete_monitored_items_request, a_delete_subscriptions_request, a_modify_subscription_request, a_modify_subscription_response, a_publish_request, a_publish_response, a_republish_request, a_republish_response, a_results_response, a_set_monitoring_mode_request, a_set_publishing_mode_request, a_status_change_notification, a_transfer_subscriptions_request, a_transfer_subscriptions_response}
 use Rattle.ua_sub_msgs.specs.Numbers.{request_id, every_request, request_known, request_small, reply_id, every_reply, reply_known, reply_small, notification_id, every_notification, notification_known, notification_small, filter_id, every_filter, filter_known, filter_small}
 
 abbrev pub request_case : SubRequestType → Case SubRequest
@@ -48,30 +48,30 @@ request_put (request.DeleteSubscriptions p) = put request_type.DeleteSubscriptio
 
 abbrev pub reply_case : SubReplyType → Case SubReply
 reply_case reply_type.CreateMonitoredItems = case a_create_monitored_items_response reply.CreateMonitoredItems
-reply_case reply_type.SetMonitoringMode = case a_set_monitoring_mode_response reply.SetMonitoringMode
-reply_case reply_type.DeleteMonitoredItems = case a_delete_monitored_items_response reply.DeleteMonitoredItems
+reply_case reply_type.SetMonitoringMode = case a_results_response reply.SetMonitoringMode
+reply_case reply_type.DeleteMonitoredItems = case a_results_response reply.DeleteMonitoredItems
 reply_case reply_type.CreateSubscription = case a_create_subscription_response reply.CreateSubscription
 reply_case reply_type.ModifySubscription = case a_modify_subscription_response reply.ModifySubscription
-reply_case reply_type.SetPublishingMode = case a_set_publishing_mode_response reply.SetPublishingMode
+reply_case reply_type.SetPublishingMode = case a_results_response reply.SetPublishingMode
 reply_case reply_type.Publish = case a_publish_response reply.Publish
 reply_case reply_type.Republish = case a_republish_response reply.Republish
 reply_case reply_type.TransferSubscriptions = case a_transfer_subscriptions_response reply.TransferSubscriptions
-reply_case reply_type.DeleteSubscriptions = case a_delete_subscriptions_response reply.DeleteSubscriptions
+reply_case reply_type.DeleteSubscriptions = case a_results_response reply.DeleteSubscriptions
 
 abbrev pub sub_replies : Family SubReplyType SubReply
 sub_replies = record { all = every_reply; id = reply_id; cases = reply_case; known = reply_known; small = reply_small }
 
 abbrev pub reply_put : SubReply → Put SubReplyType
 reply_put (reply.CreateMonitoredItems p) = put reply_type.CreateMonitoredItems a_create_monitored_items_response p
-reply_put (reply.SetMonitoringMode p) = put reply_type.SetMonitoringMode a_set_monitoring_mode_response p
-reply_put (reply.DeleteMonitoredItems p) = put reply_type.DeleteMonitoredItems a_delete_monitored_items_response p
+reply_put (reply.SetMonitoringMode p) = put reply_type.SetMonitoringMode a_results_response p
+reply_put (reply.DeleteMonitoredItems p) = put reply_type.DeleteMonitoredItems a_results_response p
 reply_put (reply.CreateSubscription p) = put reply_type.CreateSubscription a_create_subscription_response p
 reply_put (reply.ModifySubscription p) = put reply_type.ModifySubscription a_modify_subscription_response p
-reply_put (reply.SetPublishingMode p) = put reply_type.SetPublishingMode a_set_publishing_mode_response p
+reply_put (reply.SetPublishingMode p) = put reply_type.SetPublishingMode a_results_response p
 reply_put (reply.Publish p) = put reply_type.Publish a_publish_response p
 reply_put (reply.Republish p) = put reply_type.Republish a_republish_response p
 reply_put (reply.TransferSubscriptions p) = put reply_type.TransferSubscriptions a_transfer_subscriptions_response p
-reply_put (reply.DeleteSubscriptions p) = put reply_type.DeleteSubscriptions a_delete_subscriptions_response p
+reply_put (reply.DeleteSubscriptions p) = put reply_type.DeleteSubscriptions a_results_response p
 
 abbrev pub notification_case : NotificationType → Case Notification
 notification_case notification_type.DataChange = case a_data_change_notification notification.DataChange

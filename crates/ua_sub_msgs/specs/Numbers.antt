@@ -6,8 +6,8 @@ use Rattle.ua_sub_msgs.specs.declared.request.SubRequestType.{SubRequestType}
 use Rattle.ua_sub_msgs.specs.declared.request.SubRequestType.TheVariants as request_type
 use Rattle.ua_sub_msgs.specs.declared.reply.SubReplyType.{SubReplyType}
 use Rattle.ua_sub_msgs.specs.declared.reply.SubReplyType.TheVariants as reply_type
-use Rattle.ua_sub_msgs.specs.declared.notice.NotificationType.{NotificationType}
-use Rattle.ua_sub_msgs.specs.declared.notice.NotificationType.TheVariants as notification_type
+use Rattle.ua_sub_msgs.specs.declared.notification.NotificationType.{NotificationType}
+use Rattle.ua_sub_msgs.specs.declared.notification.NotificationType.TheVariants as notification_type
 use Rattle.ua_sub_msgs.specs.declared.filter.FilterType.{FilterType}
 use Rattle.ua_sub_msgs.specs.declared.filter.FilterType.TheVariants as filter_type
 

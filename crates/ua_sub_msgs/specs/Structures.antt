@@ -1,15 +1,13 @@
 -- The structures of this crate: their fields in their order.
 use Rattle.std.specs.Prelude.{refl}
-use Rattle.ua_sub_msgs.specs.declared.item.DataChangeFilter.{DataChangeFilter}
+use Rattle.ua_sub_msgs.specs.declared.filter.DataChangeFilter.{DataChangeFilter}
 use Rattle.ua_sub_msgs.specs.declared.item.MonitoringParameters.{MonitoringParameters}
 use Rattle.ua_sub_msgs.specs.declared.item.MonitoredItemCreateRequest.{MonitoredItemCreateRequest}
 use Rattle.ua_sub_msgs.specs.declared.item.MonitoredItemCreateResult.{MonitoredItemCreateResult}
 use Rattle.ua_sub_msgs.specs.declared.item.CreateMonitoredItemsRequest.{CreateMonitoredItemsRequest}
 use Rattle.ua_sub_msgs.specs.declared.item.CreateMonitoredItemsResponse.{CreateMonitoredItemsResponse}
 use Rattle.ua_sub_msgs.specs.declared.item.SetMonitoringModeRequest.{SetMonitoringModeRequest}
-use Rattle.ua_sub_msgs.specs.declared.item.SetMonitoringModeResponse.{SetMonitoringModeResponse}
 use Rattle.ua_sub_msgs.specs.declared.item.DeleteMonitoredItemsRequest.{DeleteMonitoredItemsRequest}
-use Rattle.ua_sub_msgs.specs.declared.item.DeleteMonitoredItemsResponse.{DeleteMonitoredItemsResponse}
 use Rattle.ua_sub_msgs.specs.declared.notification.MonitoredItemNotification.{MonitoredItemNotification}
 use Rattle.ua_sub_msgs.specs.declared.notification.DataChangeNotification.{DataChangeNotification}
 use Rattle.ua_sub_msgs.specs.declared.notification.StatusChangeNotification.{StatusChangeNotification}
@@ -19,12 +17,11 @@ use Rattle.ua_sub_msgs.specs.declared.subscription.CreateSubscriptionResponse.{C
 use Rattle.ua_sub_msgs.specs.declared.subscription.ModifySubscriptionRequest.{ModifySubscriptionRequest}
 use Rattle.ua_sub_msgs.specs.declared.subscription.ModifySubscriptionResponse.{ModifySubscriptionResponse}
 use Rattle.ua_sub_msgs.specs.declared.subscription.SetPublishingModeRequest.{SetPublishingModeRequest}
-use Rattle.ua_sub_msgs.specs.declared.subscription.SetPublishingModeResponse.{SetPublishingModeResponse}
 use Rattle.ua_sub_msgs.specs.declared.subscription.TransferSubscriptionsRequest.{TransferSubscriptionsRequest}
 use Rattle.ua_sub_msgs.specs.declared.subscription.TransferResult.{TransferResult}
 use Rattle.ua_sub_msgs.specs.declared.subscription.TransferSubscriptionsResponse.{TransferSubscriptionsResponse}
 use Rattle.ua_sub_msgs.specs.declared.subscription.DeleteSubscriptionsRequest.{DeleteSubscriptionsRequest}
-use Rattle.ua_sub_msgs.specs.declared.subscription.DeleteSubscriptionsResponse.{DeleteSubscriptionsResponse}
+use Rattle.ua_sub_msgs.specs.declared.results.ResultsResponse.{ResultsResponse}
 use Rattle.ua_sub_msgs.specs.declared.publish.SubscriptionAcknowledgement.{SubscriptionAcknowledgement}
 use Rattle.ua_sub_msgs.specs.declared.publish.PublishRequest.{PublishRequest}
 use Rattle.ua_sub_msgs.specs.declared.publish.PublishResponse.{PublishResponse}
@@ -32,6 +29,13 @@ use Rattle.ua_sub_msgs.specs.declared.publish.RepublishRequest.{RepublishRequest
 use Rattle.ua_sub_msgs.specs.declared.publish.RepublishResponse.{RepublishResponse}
 use Rattle.ua_structures.specs.Form.{Form, a_boolean, a_byte, a_data_value, a_date_time, a_diagnostic_info, a_double, a_uint32, an_array, an_extension_object, an_int32, structure, ◌then◌}
 use Rattle.ua_structures.specs.Structures.{a_read_value_id, a_request_header, a_response_header, unused_diagnostics}
+
+-- the reply to SetMonitoringMode, DeleteMonitoredItems, SetPublishingMode and DeleteSubscriptions
+-- (OPC 10000-4, 5.12.4, 5.12.6, 5.13.4 and 5.13.8)
+unfoldable pub a_results_response : Form ResultsResponse
+a_results_response = structure (a_response_header then an_array a_uint32 then unused_diagnostics)
+    (λ r. (r.response_header, (r.results, r.diagnostic_infos)))
+    (λ f. record { response_header = f.0; results = f.1.0; diagnostic_infos = f.1.1 }) (λ r. refl) (λ f. refl)
 
 -- OPC 10000-4, 7.17.2
 unfoldable pub a_data_change_filter : Form DataChangeFilter
@@ -75,23 +79,11 @@ a_set_monitoring_mode_request = structure (a_request_header then a_uint32 then a
     (λ r. (r.request_header, (r.subscription_id, (r.monitoring_mode, r.monitored_item_ids))))
     (λ f. record { request_header = f.0; subscription_id = f.1.0; monitoring_mode = f.1.1.0; monitored_item_ids = f.1.1.1 }) (λ r. refl) (λ f. refl)
 
--- OPC 10000-4, 5.12.4
-unfoldable pub a_set_monitoring_mode_response : Form SetMonitoringModeResponse
-a_set_monitoring_mode_response = structure (a_response_header then an_array a_uint32 then unused_diagnostics)
-    (λ r. (r.response_header, (r.results, r.diagnostic_infos)))
-    (λ f. record { response_header = f.0; results = f.1.0; diagnostic_infos = f.1.1 }) (λ r. refl) (λ f. refl)
-
 -- OPC 10000-4, 5.12.6
 unfoldable pub a_delete_monitored_items_request : Form DeleteMonitoredItemsRequest
 a_delete_monitored_items_request = structure (a_request_header then a_uint32 then an_array a_uint32)
     (λ r. (r.request_header, (r.subscription_id, r.monitored_item_ids)))
     (λ f. record { request_header = f.0; subscription_id = f.1.0; monitored_item_ids = f.1.1 }) (λ r. refl) (λ f. refl)
-
--- OPC 10000-4, 5.12.6
-unfoldable pub a_delete_monitored_items_response : Form DeleteMonitoredItemsResponse
-a_delete_monitored_items_response = structure (a_response_header then an_array a_uint32 then unused_diagnostics)
-    (λ r. (r.response_header, (r.results, r.diagnostic_infos)))
-    (λ f. record { response_header = f.0; results = f.1.0; diagnostic_infos = f.1.1 }) (λ r. refl) (λ f. refl)
 
 -- OPC 10000-4, 7.20.2
 unfoldable pub a_monitored_item_notification : Form MonitoredItemNotification
@@ -147,12 +139,6 @@ a_set_publishing_mode_request = structure (a_request_header then a_boolean then 
     (λ r. (r.request_header, (r.publishing_enabled, r.subscription_ids)))
     (λ f. record { request_header = f.0; publishing_enabled = f.1.0; subscription_ids = f.1.1 }) (λ r. refl) (λ f. refl)
 
--- OPC 10000-4, 5.13.4
-unfoldable pub a_set_publishing_mode_response : Form SetPublishingModeResponse
-a_set_publishing_mode_response = structure (a_response_header then an_array a_uint32 then unused_diagnostics)
-    (λ r. (r.response_header, (r.results, r.diagnostic_infos)))
-    (λ f. record { response_header = f.0; results = f.1.0; diagnostic_infos = f.1.1 }) (λ r. refl) (λ f. refl)
-
 -- OPC 10000-4, 5.13.7
 unfoldable pub a_transfer_subscriptions_request : Form TransferSubscriptionsRequest
 a_transfer_subscriptions_request = structure (a_request_header then an_array a_uint32 then a_boolean)
@@ -176,12 +162,6 @@ unfoldable pub a_delete_subscriptions_request : Form DeleteSubscriptionsRequest
 a_delete_subscriptions_request = structure (a_request_header then an_array a_uint32)
     (λ r. (r.request_header, r.subscription_ids))
     (λ f. record { request_header = f.0; subscription_ids = f.1 }) (λ r. refl) (λ f. refl)
-
--- OPC 10000-4, 5.13.8
-unfoldable pub a_delete_subscriptions_response : Form DeleteSubscriptionsResponse
-a_delete_subscriptions_response = structure (a_response_header then an_array a_uint32 then unused_diagnostics)
-    (λ r. (r.response_header, (r.results, r.diagnostic_infos)))
-    (λ f. record { response_header = f.0; results = f.1.0; diagnostic_infos = f.1.1 }) (λ r. refl) (λ f. refl)
 
 -- OPC 10000-4, 5.13.5
 unfoldable pub a_subscription_acknowledgement : Form SubscriptionAcknowledgement

@@ -1,13 +1,42 @@
+//! Which new values of an item are told.
+
 ghost use Rattle.std.specs.Prelude.{◌≡◌, IfOk};
 ghost use Rattle.ua_structures.specs.Body.{service, object_at, object_by, Answers, IsContentRead};
 ghost use Rattle.ua_sub_msgs.specs.Numbers.{filter_id};
 ghost use Rattle.ua_sub_msgs.specs.Families.{filter_put, filters};
 
-use crate::item::DataChangeFilter;
 use std::alloc::Global;
 use ua_base::OutOfMemory;
-use ua_structures::{Body, BodyFault, read_content, write_content};
+use ua_structures::{Body, BodyFault, put_fields, read_content, read_fields, write_content};
 use ua_values::{Cursor, Element, ExtensionObject, ValueFault};
+
+/// When a value counts as changed; it stands in an ExtensionObject (OPC 10000-4, 7.17.2).
+#[derive(Clone, Copy, Debug, PartialEq, Eq)]
+pub struct DataChangeFilter {
+    /// A DataChangeTrigger: 0 status, 1 status and value, 2 status, value and time.
+    pub trigger: i32,
+    /// 0 none, 1 absolute, 2 percent.
+    pub deadband_type: u32,
+    /// The bits of a Double.
+    pub deadband_value: u64,
+}
+
+#[tactic(auto, unfolding(crate::specs::Structures::a_data_change_filter))]
+impl Element for DataChangeFilter {
+    ghost use Rattle.ua_sub_msgs.specs.Structures.{a_data_change_filter};
+
+    ghost at = { a_data_change_filter.at };
+
+    ghost written = { a_data_change_filter.written };
+
+    fn read(alloc: Global, from: &mut Cursor<'_>) -> Result<DataChangeFilter, ValueFault> {
+        read_fields!(alloc, from => trigger, deadband_type, deadband_value)
+    }
+
+    fn put(&self, to: &mut Vec<u8>) -> Result<(), OutOfMemory> {
+        put_fields!(self, to => trigger, deadband_type, deadband_value)
+    }
+}
 
 /// Which of these filters an object holds.
 #[derive(Clone, Copy, Debug, PartialEq, Eq)]

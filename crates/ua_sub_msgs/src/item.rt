@@ -7,34 +7,6 @@ use ua_structures::{
 };
 use ua_values::{Cursor, Element, ExtensionObject, ValueFault};
 
-/// When a value counts as changed; it stands in an ExtensionObject (OPC 10000-4, 7.17.2).
-#[derive(Clone, Copy, Debug, PartialEq, Eq)]
-pub struct DataChangeFilter {
-    /// A DataChangeTrigger: 0 status, 1 status and value, 2 status, value and time.
-    pub trigger: i32,
-    /// 0 none, 1 absolute, 2 percent.
-    pub deadband_type: u32,
-    /// The bits of a Double.
-    pub deadband_value: u64,
-}
-
-#[tactic(auto, unfolding(crate::specs::Structures::a_data_change_filter))]
-impl Element for DataChangeFilter {
-    ghost use Rattle.ua_sub_msgs.specs.Structures.{a_data_change_filter};
-
-    ghost at = { a_data_change_filter.at };
-
-    ghost written = { a_data_change_filter.written };
-
-    fn read(alloc: Global, from: &mut Cursor<'_>) -> Result<DataChangeFilter, ValueFault> {
-        read_fields!(alloc, from => trigger, deadband_type, deadband_value)
-    }
-
-    fn put(&self, to: &mut Vec<u8>) -> Result<(), OutOfMemory> {
-        put_fields!(self, to => trigger, deadband_type, deadband_value)
-    }
-}
-
 /// How an item is monitored (OPC 10000-4, 7.16).
 #[derive(Debug, Drop)]
 pub struct MonitoringParameters {
@@ -216,32 +188,6 @@ impl Element for SetMonitoringModeRequest {
     }
 }
 
-/// What became of it (OPC 10000-4, 5.12.4).
-#[derive(Debug, Drop)]
-pub struct SetMonitoringModeResponse {
-    pub response_header: ResponseHeader,
-    /// A StatusCode for each, in the order of the request.
-    pub results: UaArray<u32>,
-    pub diagnostic_infos: UnusedDiagnostics,
-}
-
-#[tactic(auto, unfolding(crate::specs::Structures::a_set_monitoring_mode_response))]
-impl Element for SetMonitoringModeResponse {
-    ghost use Rattle.ua_sub_msgs.specs.Structures.{a_set_monitoring_mode_response};
-
-    ghost at = { a_set_monitoring_mode_response.at };
-
-    ghost written = { a_set_monitoring_mode_response.written };
-
-    fn read(alloc: Global, from: &mut Cursor<'_>) -> Result<SetMonitoringModeResponse, ValueFault> {
-        read_fields!(alloc, from => response_header, results, diagnostic_infos)
-    }
-
-    fn put(&self, to: &mut Vec<u8>) -> Result<(), OutOfMemory> {
-        put_fields!(self, to => response_header, results, diagnostic_infos)
-    }
-}
-
 /// Ends items of a subscription (OPC 10000-4, 5.12.6).
 #[derive(Debug, Drop)]
 pub struct DeleteMonitoredItemsRequest {
@@ -267,34 +213,5 @@ impl Element for DeleteMonitoredItemsRequest {
 
     fn put(&self, to: &mut Vec<u8>) -> Result<(), OutOfMemory> {
         put_fields!(self, to => request_header, subscription_id, monitored_item_ids)
-    }
-}
-
-/// What became of it (OPC 10000-4, 5.12.6).
-#[derive(Debug, Drop)]
-pub struct DeleteMonitoredItemsResponse {
-    pub response_header: ResponseHeader,
-    /// A StatusCode for each, in the order of the request.
-    pub results: UaArray<u32>,
-    pub diagnostic_infos: UnusedDiagnostics,
-}
-
-#[tactic(auto, unfolding(crate::specs::Structures::a_delete_monitored_items_response))]
-impl Element for DeleteMonitoredItemsResponse {
-    ghost use Rattle.ua_sub_msgs.specs.Structures.{a_delete_monitored_items_response};
-
-    ghost at = { a_delete_monitored_items_response.at };
-
-    ghost written = { a_delete_monitored_items_response.written };
-
-    fn read(
-        alloc: Global,
-        from: &mut Cursor<'_>,
-    ) -> Result<DeleteMonitoredItemsResponse, ValueFault> {
-        read_fields!(alloc, from => response_header, results, diagnostic_infos)
-    }
-
-    fn put(&self, to: &mut Vec<u8>) -> Result<(), OutOfMemory> {
-        put_fields!(self, to => response_header, results, diagnostic_infos)
     }
 }

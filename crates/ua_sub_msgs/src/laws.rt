@@ -1,7 +1,8 @@
 //! What holds of the families of this crate, each the contract of a function that does nothing.
 
 ghost use Rattle.ua_structures.specs.Body.{AreLawful, AreHeld};
-ghost use Rattle.ua_sub_msgs.specs.Families.{sub_requests, request_put, sub_replies, reply_put, notifications, notification_put, filters, filter_put};
+ghost use Rattle.ua_sub_msgs.specs.Families.{sub_requests, request_put, sub_replies, reply_put};
+ghost use Rattle.ua_sub_msgs.specs.Families.{notifications, notification_put, filters, filter_put};
 
 /// Bytes are a body of one SubRequest at most; what is written of one is read again.
 pub fn sub_requests_are_lawful()

@@ -4,29 +4,27 @@
 mod filter;
 mod item;
 mod laws;
-mod notice;
 mod notification;
 mod publish;
 mod reply;
 mod request;
+mod results;
 mod subscription;
 #[cfg(test)]
 mod tests;
 
-pub use filter::{Filter, FilterType, read_filter, write_filter};
+pub use filter::{DataChangeFilter, Filter, FilterType, read_filter, write_filter};
 pub use item::{
-    CreateMonitoredItemsRequest, CreateMonitoredItemsResponse, DataChangeFilter,
-    DeleteMonitoredItemsRequest, DeleteMonitoredItemsResponse, MonitoredItemCreateRequest,
-    MonitoredItemCreateResult, MonitoringParameters, SetMonitoringModeRequest,
-    SetMonitoringModeResponse,
+    CreateMonitoredItemsRequest, CreateMonitoredItemsResponse, DeleteMonitoredItemsRequest,
+    MonitoredItemCreateRequest, MonitoredItemCreateResult, MonitoringParameters,
+    SetMonitoringModeRequest,
 };
 pub use laws::{
     filters_are_held, notifications_are_held, sub_replies_are_lawful, sub_requests_are_lawful,
 };
-pub use notice::{Notification, NotificationType, read_notification, write_notification};
 pub use notification::{
-    DataChangeNotification, MonitoredItemNotification, NotificationMessage,
-    StatusChangeNotification,
+    DataChangeNotification, MonitoredItemNotification, Notification, NotificationMessage,
+    NotificationType, StatusChangeNotification, read_notification, write_notification,
 };
 pub use publish::{
     PublishRequest, PublishResponse, RepublishRequest, RepublishResponse,
@@ -34,9 +32,9 @@ pub use publish::{
 };
 pub use reply::{SubReply, SubReplyType, read_reply, write_reply};
 pub use request::{SubRequest, SubRequestType, read_request, write_request};
+pub use results::ResultsResponse;
 pub use subscription::{
     CreateSubscriptionRequest, CreateSubscriptionResponse, DeleteSubscriptionsRequest,
-    DeleteSubscriptionsResponse, ModifySubscriptionRequest, ModifySubscriptionResponse,
-    SetPublishingModeRequest, SetPublishingModeResponse, TransferResult,
-    TransferSubscriptionsRequest, TransferSubscriptionsResponse,
+    ModifySubscriptionRequest, ModifySubscriptionResponse, SetPublishingModeRequest,
+    TransferResult, TransferSubscriptionsRequest, TransferSubscriptionsResponse,
 };

@@ -3,13 +3,11 @@ ghost use Rattle.ua_structures.specs.Body.{service, body_at, written_by, Answers
 ghost use Rattle.ua_sub_msgs.specs.Numbers.{reply_id};
 ghost use Rattle.ua_sub_msgs.specs.Families.{reply_put, sub_replies};
 
-use crate::item::{
-    CreateMonitoredItemsResponse, DeleteMonitoredItemsResponse, SetMonitoringModeResponse,
-};
+use crate::item::CreateMonitoredItemsResponse;
 use crate::publish::{PublishResponse, RepublishResponse};
+use crate::results::ResultsResponse;
 use crate::subscription::{
-    CreateSubscriptionResponse, DeleteSubscriptionsResponse, ModifySubscriptionResponse,
-    SetPublishingModeResponse, TransferSubscriptionsResponse,
+    CreateSubscriptionResponse, ModifySubscriptionResponse, TransferSubscriptionsResponse,
 };
 use std::alloc::Global;
 use ua_base::OutOfMemory;
@@ -76,15 +74,15 @@ impl SubReplyType {
 #[derive(Debug, Drop)]
 pub enum SubReply {
     CreateMonitoredItems(CreateMonitoredItemsResponse),
-    SetMonitoringMode(SetMonitoringModeResponse),
-    DeleteMonitoredItems(DeleteMonitoredItemsResponse),
+    SetMonitoringMode(ResultsResponse),
+    DeleteMonitoredItems(ResultsResponse),
     CreateSubscription(CreateSubscriptionResponse),
     ModifySubscription(ModifySubscriptionResponse),
-    SetPublishingMode(SetPublishingModeResponse),
+    SetPublishingMode(ResultsResponse),
     Publish(PublishResponse),
     Republish(RepublishResponse),
     TransferSubscriptions(TransferSubscriptionsResponse),
-    DeleteSubscriptions(DeleteSubscriptionsResponse),
+    DeleteSubscriptions(ResultsResponse),
 }
 
 impl SubReply {

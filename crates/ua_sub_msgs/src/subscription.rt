@@ -175,32 +175,6 @@ impl Element for SetPublishingModeRequest {
     }
 }
 
-/// What became of it (OPC 10000-4, 5.13.4).
-#[derive(Debug, Drop)]
-pub struct SetPublishingModeResponse {
-    pub response_header: ResponseHeader,
-    /// A StatusCode for each, in the order of the request.
-    pub results: UaArray<u32>,
-    pub diagnostic_infos: UnusedDiagnostics,
-}
-
-#[tactic(auto, unfolding(crate::specs::Structures::a_set_publishing_mode_response))]
-impl Element for SetPublishingModeResponse {
-    ghost use Rattle.ua_sub_msgs.specs.Structures.{a_set_publishing_mode_response};
-
-    ghost at = { a_set_publishing_mode_response.at };
-
-    ghost written = { a_set_publishing_mode_response.written };
-
-    fn read(alloc: Global, from: &mut Cursor<'_>) -> Result<SetPublishingModeResponse, ValueFault> {
-        read_fields!(alloc, from => response_header, results, diagnostic_infos)
-    }
-
-    fn put(&self, to: &mut Vec<u8>) -> Result<(), OutOfMemory> {
-        put_fields!(self, to => response_header, results, diagnostic_infos)
-    }
-}
-
 /// Takes subscriptions over into this session (OPC 10000-4, 5.13.7).
 #[derive(Debug, Drop)]
 pub struct TransferSubscriptionsRequest {
@@ -307,34 +281,5 @@ impl Element for DeleteSubscriptionsRequest {
 
     fn put(&self, to: &mut Vec<u8>) -> Result<(), OutOfMemory> {
         put_fields!(self, to => request_header, subscription_ids)
-    }
-}
-
-/// What became of it (OPC 10000-4, 5.13.8).
-#[derive(Debug, Drop)]
-pub struct DeleteSubscriptionsResponse {
-    pub response_header: ResponseHeader,
-    /// A StatusCode for each, in the order of the request.
-    pub results: UaArray<u32>,
-    pub diagnostic_infos: UnusedDiagnostics,
-}
-
-#[tactic(auto, unfolding(crate::specs::Structures::a_delete_subscriptions_response))]
-impl Element for DeleteSubscriptionsResponse {
-    ghost use Rattle.ua_sub_msgs.specs.Structures.{a_delete_subscriptions_response};
-
-    ghost at = { a_delete_subscriptions_response.at };
-
-    ghost written = { a_delete_subscriptions_response.written };
-
-    fn read(
-        alloc: Global,
-        from: &mut Cursor<'_>,
-    ) -> Result<DeleteSubscriptionsResponse, ValueFault> {
-        read_fields!(alloc, from => response_header, results, diagnostic_infos)
-    }
-
-    fn put(&self, to: &mut Vec<u8>) -> Result<(), OutOfMemory> {
-        put_fields!(self, to => response_header, results, diagnostic_infos)
     }
 }
