@@ -112,7 +112,7 @@ items_place n e h = grind (arith, nat_tests)
 pub within_range : (low high n : ℕ) → is_within low high n ≡ true → (low ≤ n) × (n ≤ high)
 within_range low high n h = (grind (arith, nat_tests), grind (arith, nat_tests))
 
-under : (low n : ℕ) → nat_le low n ≡ false → n < low
+pub under : (low n : ℕ) → nat_le low n ≡ false → n < low
 under low n h = grind (arith, nat_tests)
 
 no_listener : (pool n m : ℕ) → cond (nat_le pool n || nat_le 16 m || nat_le 255 n) (Some kind.NoListener) None ≡ None → n < 255

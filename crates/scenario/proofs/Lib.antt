@@ -7,3 +7,4 @@ pub mod NumeralLemmas
 pub mod GrammarLemmas
 pub mod ReadLemmas
 pub mod WrittenLemmas
+pub mod StandLemmas

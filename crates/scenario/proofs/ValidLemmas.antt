@@ -151,7 +151,7 @@ none_full : (full : Bool) (o : Option SourceFault) → (kind_of_refusal o ≡ No
 none_full true o f h = absurd cc
 none_full false o f h = f h
 
-not_refused : (changes : List Change) (change : Change) → kind_of_refusal (refusal changes change) ≡ None → refusal changes change ≡ None
+pub not_refused : (changes : List Change) (change : Change) → kind_of_refusal (refusal changes change) ≡ None → refusal changes change ≡ None
 not_refused changes change h = none_full (nat_le 200000 (length changes)) (refusal_after (last_of change.item changes) change) (none_last (last_of change.item changes) change) h
 
 source_step : (pool : ℕ) (before : List Line) (f : Form) → Passes pool before f → IsSource (changes_in before) → IsSource (changes_in before ++ change_of (line_of f))
@@ -184,7 +184,7 @@ none_is_room true o h = absurd cc
 none_is_room false o h = refl
 
 -- a change that is not refused finds room
-room_left : (changes : List Change) (change : Change) → refusal changes change ≡ None → length changes < 200000
+pub room_left : (changes : List Change) (change : Change) → refusal changes change ≡ None → length changes < 200000
 room_left changes change h =
     let b : nat_le 200000 (length changes) ≡ false = none_is_room (nat_le 200000 (length changes)) (refusal_after (last_of change.item changes) change) h in
     grind (arith, nat_tests)

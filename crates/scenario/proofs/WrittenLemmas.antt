@@ -132,7 +132,7 @@ items_either [] l = inl refl
 items_either (m ∷ []) l = inr refl
 items_either (m ∷ (n ∷ ls)) l = inl refl
 
-few_of : (pool : ℕ) (before : List Line) (f : Form) → Passes pool before f → (servers_of (line_of f) < 2 ^ 64) × (items_of (line_of f) < 2 ^ 64)
+pub few_of : (pool : ℕ) (before : List Line) (f : Form) → Passes pool before f → (servers_of (line_of f) < 2 ^ 64) × (items_of (line_of f) < 2 ^ 64)
 few_of pool before (form.Set mode servers) p = let w = within_range 1 8 servers p.range in (omega arith, omega arith)
 few_of pool before (form.Items items queue oldest) p =
     let parts = and_parts (is_within 1 64 items) (is_within 2 1000 queue) p.range in

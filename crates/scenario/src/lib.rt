@@ -12,7 +12,7 @@ mod words;
 
 pub use fault::{FaultKind, ReadError, ScenarioFault};
 pub use form::Form;
-pub use laws::{grammar, reads_what_was_written, valid_lines};
+pub use laws::{grammar, reads_what_was_written, scenarios_are_read, valid_lines};
 pub use line::Line;
 pub use reader::MOST_LINES;
 pub use text::{read, write};

@@ -73,12 +73,12 @@ pub(crate) fn number_of(word: &[u8]) -> Option<u64>
 }
 
 /// The picoseconds that are said behind a dot, if there is one, at most `u64::MAX`.
-fn pico_of(digits: Option<&[u8]>) -> Option<Option<u64>>
-    ensures { result ≡ pico_by capped (option_copied digits.entry) }
+fn pico_of(behind: Option<&[u8]>) -> Option<Option<u64>>
+    ensures { result ≡ pico_by capped (option_copied behind.entry) }
 {
-    match digits {
+    match behind {
         None => Some(None),
-        Some(digits) => Some(Some(number_of(digits)?)),
+        Some(word) => Some(Some(number_of(word)?)),
     }
 }
 
@@ -86,9 +86,9 @@ fn pico_of(digits: Option<&[u8]>) -> Option<Option<u64>>
 pub(crate) fn stamp_of(word: &[u8]) -> Option<(u64, Option<u64>)>
     ensures { result ≡ stamp_by capped word.now }
 {
-    let (time, digits) = split_dot(word);
+    let (time, behind) = split_dot(word);
     let time = number_of(time)?;
-    let pico = pico_of(digits)?;
+    let pico = pico_of(behind)?;
     Some((time, pico))
 }
 
