@@ -8,7 +8,9 @@ use Rattle.delivery_log.specs.State.{LogState}
 use Rattle.delivery_log.specs.Log.{entry_lines, joint_at, last_kept, taken_over}
 use Rattle.delivery_log.specs.History.{Act, Enter, Set, TurnOne, TurnAll, Note, AreWithin, StandsFor, acted, joined, log_after, log_of, log_of_both}
 use Rattle.delivery_log.specs.Safe.{Safe}
-use Rattle.delivery_log.specs.WellFed.{WellFed, WellFedAfter}
+use Rattle.delivery_log.specs.Caused.{Caused}
+use Rattle.delivery_log.specs.WellFed.{AreNotes, WellFed, WellFedAfter}
+use Rattle.delivery_log.proofs.Causes.{caused_lines}
 use Rattle.delivery_log.proofs.Kept.{log_stands}
 use Rattle.delivery_log.proofs.Law.{safe_from_well_fed}
 
@@ -64,3 +66,15 @@ joined_safe servers items source first second w v s h k =
     joined_stands servers items first second w v in
     let P : List LogLine → Type 0 = Safe source in
     subst P (sym stands.lines) (safe_from_well_fed source (second ++ first) s (well_fed_on source first second h k))
+
+notes_of_both : (first second : List Act) → AreNotes first → AreNotes second → AreNotes (second ++ first)
+notes_of_both first [] n m = n
+notes_of_both first (act ∷ acts) n m = (m.0, notes_of_both first acts n m.1)
+
+-- BOTH LOGS' GAPS HAVE TRUE CAUSES
+pub joined_caused : (servers items : ℕ) (first second : List Act) → AreWithin servers items first → AreWithin servers items second
+    → AreNotes first → AreNotes second → Caused (second ++ first) (log_of_both servers items first second).lines
+joined_caused servers items first second w v n m =
+    let stands : StandsFor servers items (second ++ first) (log_of_both servers items first second) = joined_stands servers items first second w v in
+    let P : List LogLine → Type 0 = Caused (second ++ first) in
+    subst P (sym stands.lines) (caused_lines (second ++ first) (notes_of_both first second n m))

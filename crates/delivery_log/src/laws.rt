@@ -61,6 +61,13 @@ pub fn gaps_have_true_causes()
     ensures { (history : List Act) → AreNotes history → Caused history (lines_of history) }
 {}
 
+/// The same of two clients, of which the second took over from the first.
+pub fn gaps_of_both_have_true_causes()
+    ensures { (servers items : ℕ) (first second : List Act)
+        → AreWithin servers items first → AreWithin servers items second → AreNotes first → AreNotes second
+        → Caused (second ++ first) (log_of_both servers items first second).lines }
+{}
+
 /// What a safe log tells its reader: each data line is a change of the source, the stamps of an item's data lines rise,
 /// and where a change of the item lies between two neighbouring ones, a gap line of the item stands directly before
 /// the later one, but for lines of what listeners heard.

@@ -23,8 +23,8 @@ pub enum Turn {
     Become(Joint),
     /// Something may be missing before the next entry, for this cause: it becomes `Open`, unless it is `Held`.
     Loosen(GapCause),
-    /// The item's monitoring is confirmed to be on again: `Held` becomes `Open` with the cause `Warm`, and any other
-    /// joint stays.
+    /// The item's monitoring is confirmed to be on again (OPC 10000-4, 5.12.4): `Held` becomes `Open` with the cause
+    /// `Warm`, and any other joint stays.
     Confirm,
 }
 
