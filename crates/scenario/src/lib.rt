@@ -16,6 +16,3 @@ pub use laws::{grammar, reads_what_was_written, scenarios_are_read, valid_lines}
 pub use line::Line;
 pub use reader::MOST_LINES;
 pub use text::{read, write};
-
-#[cfg(test)]
-mod tests;
