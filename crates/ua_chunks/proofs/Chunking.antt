@@ -41,11 +41,11 @@ chunk_is to k c request bytes s =
 
 -- ---- the last chunk, or one before it
 
-last_by : (n : ℕ) (k : Kind) (request : ℕ) (bytes : List ℕ) (s : Sending) → length bytes ≤ in_chunk s → parts_up_to n k request bytes s ≡ part k chunk.Final request bytes s ∷ []
+pub last_by : (n : ℕ) (k : Kind) (request : ℕ) (bytes : List ℕ) (s : Sending) → length bytes ≤ in_chunk s → parts_up_to n k request bytes s ≡ part k chunk.Final request bytes s ∷ []
 last_by zero k request bytes s le = refl
 last_by (suc n) k request bytes s le = rw (le-ltb (in_chunk s) (length bytes) le) refl
 
-more_by : (n : ℕ) (k : Kind) (request : ℕ) (bytes : List ℕ) (s : Sending) → in_chunk s < length bytes
+pub more_by : (n : ℕ) (k : Kind) (request : ℕ) (bytes : List ℕ) (s : Sending) → in_chunk s < length bytes
     → parts_up_to (suc n) k request bytes s ≡ part k chunk.Middle request (take (in_chunk s) bytes) s ∷ parts_up_to n k request (drop (in_chunk s) bytes) (stepped s)
 more_by n k request bytes s lt = rw (lt-ltb (in_chunk s) (length bytes) lt) refl
 

@@ -73,7 +73,7 @@ refused_parts place request code k bytes s a is lt none breaks =
       ended = subst (λ fs. Ended fs fault a) (sym are) (ended_by f others fault a after);
     }
 
-parts_are : (k : Kind) (request : ℕ) (bytes : List ℕ) (s : Sending) → (k ≡ kind.Msg) ⊎ (k ≡ kind.Clo) → parts_of k request bytes s ≡ message_parts k request bytes s
+pub parts_are : (k : Kind) (request : ℕ) (bytes : List ℕ) (s : Sending) → (k ≡ kind.Msg) ⊎ (k ≡ kind.Clo) → parts_of k request bytes s ≡ message_parts k request bytes s
 parts_are k request bytes s (inl e) = subst (λ k. parts_of k request bytes s ≡ message_parts k request bytes s) (sym e) refl
 parts_are k request bytes s (inr e) = subst (λ k. parts_of k request bytes s ≡ message_parts k request bytes s) (sym e) refl
 

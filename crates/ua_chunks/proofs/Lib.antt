@@ -9,4 +9,5 @@ pub mod Arriving
 pub mod Putting
 pub mod Making
 pub mod Leading
+pub mod Hearing
 pub mod BodyLaws

@@ -37,7 +37,7 @@ pub record IsPart (size : ℕ) (p : Part) : Type 0 where
   pub chunk : (p.kind ≡ kind.Msg) ⊎ (p.chunk ≡ chunk.Final)
   pub small : 8 + length p.body ≤ size
 
-placed_from : (size place : ℕ) (parts : List Part) → size ≤ 65536 → AllByRecursion (IsPart size) parts → AreFrom place (placed place parts)
+pub placed_from : (size place : ℕ) (parts : List Part) → size ≤ 65536 → AllByRecursion (IsPart size) parts → AreFrom place (placed place parts)
 placed_from size place [] le are = tt
 placed_from size place (p ∷ parts) le are =
     let small = are.0.small in
@@ -51,7 +51,7 @@ both_small : {A : Type 0} (P : A → Type 0) (xs ys : List A) → AllByRecursion
 both_small P [] ys first second = second
 both_small P (x ∷ xs) ys first second = (first.0, both_small P xs ys first.1 second)
 
-from_append : (place : ℕ) (xs ys : List Frame) → place < 2 ^ 64 → AreFrom place xs → AreFrom (moved place (length (all_bytes xs))) ys → AreFrom place (xs ++ ys)
+pub from_append : (place : ℕ) (xs ys : List Frame) → place < 2 ^ 64 → AreFrom place xs → AreFrom (moved place (length (all_bytes xs))) ys → AreFrom place (xs ++ ys)
 from_append place [] ys lt first second =
     let same : moved place 0 ≡ place = omega arith in subst (λ (p : ℕ). AreFrom p ys) same second
 from_append place (f ∷ xs) ys lt first second =
@@ -195,7 +195,7 @@ in_step_new s =
     record { channel = refl; token = ap (λ b. b || false) same; number = refl; chunks = refl; body = refl; fault = refl }
 
 -- what is so of one message's parts, whoever takes them
-comes_new : (place : ℕ) (m : Put) (s : Sending) → IsSending s → IsPut m s → Comes place m s (new_assembly s.channel s.token)
+pub comes_new : (place : ℕ) (m : Put) (s : Sending) → IsSending s → IsPut m s → Comes place m s (new_assembly s.channel s.token)
 comes_new place m s sends put = comes place m s (new_assembly s.channel s.token) sends (in_step_new s) put
 
 size_after : (parts : List Part) (s : Sending) → (after_parts parts s).size ≡ s.size
@@ -312,7 +312,7 @@ ended_by f frames fault a after = ended_rest f frames fault a after (ended frame
 
 -- ---- an OPN's frame
 
-opn_small : (request : ℕ) (body : List ℕ) (s : Sending) → length body ≤ 4096 → IsPart 65536 (opn_part request body s)
+pub opn_small : (request : ℕ) (body : List ℕ) (s : Sending) → length body ≤ 4096 → IsPart 65536 (opn_part request body s)
 opn_small request body s short =
     let a = length-bytes_low_first 0 4 s.channel in
     let n = length-bytes_low_first 0 4 s.next in
@@ -391,7 +391,7 @@ opn_fed request body s f between short =
     subst (λ (l : List ℕ). Brings (placed f.place parts) l f) (placed_bytes f.place parts)
     (brings (placed f.place parts) f between (placed_from 65536 f.place parts (omega arith) (opn_small request body s short, tt)))
 
-whole_small : (k : Kind) (body : List ℕ) → length body ≤ 65528 → IsPart 65536 (whole_part k body)
+pub whole_small : (k : Kind) (body : List ℕ) → length body ≤ 65528 → IsPart 65536 (whole_part k body)
 whole_small k body short = record { chunk = inr refl; small = omega (arith, short) }
 
 pub whole_fed : (k : Kind) (body : List ℕ) (f : Framing) → IsBetween f → length body ≤ 65528

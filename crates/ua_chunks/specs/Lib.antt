@@ -5,3 +5,4 @@ pub mod Assembly
 pub mod Bodies
 pub mod Sending
 pub mod Arrival
+pub mod Traffic

@@ -1,7 +1,7 @@
 //! Laws of frames and framers, each the contract of a function that does nothing.
 
 ghost use Rattle.std.specs.Prelude.{[], ◌∷◌, ◌≡◌, ◌<◌, ◌≤◌, ◌+◌, ◌^◌, ◌↔◌, ◌⊎◌, ℕ, List, ◌++◌};
-ghost use Rattle.std.specs.Prelude.{length, map, false, true, Option, None, Some, Ok, All};
+ghost use Rattle.std.specs.Prelude.{length, map, false, true, Option, None, Some, Ok, Err, All};
 ghost use Rattle.std.specs.List.{AllByRecursion, concat, flat_map};
 ghost use Rattle.ua_base.specs.Number.{after_chunk};
 ghost use Rattle.ua_base.specs.Status.{bad_secure_channel_token_unknown, bad_sequence_number_invalid};
@@ -17,7 +17,8 @@ ghost use Rattle.ua_chunks.specs.declared.message.MessageFault.{MessageFault};
 ghost use Rattle.ua_chunks.specs.Arrival.{ArePut, BeginsWith, InStep, IsPut, Put, after_all, all_put, frames_put};
 ghost use Rattle.ua_chunks.specs.Arrival.{message_put, opn_put, placed};
 ghost use Rattle.ua_chunks.specs.Assembly.{Assembly, Breaks, Drops, Ended, HasFirstFault, IsIdle, IsMiddle, Leads};
-ghost use Rattle.ua_chunks.specs.Assembly.{RefusesFirst, assembled, fault_after, head_of, messages_of, new_assembly};
+ghost use Rattle.ua_chunks.specs.Assembly.{RefusesFirst, Tokens, assembled, fault_after, head_of, messages_of};
+ghost use Rattle.ua_chunks.specs.Assembly.{new_assembly};
 ghost use Rattle.ua_chunks.specs.Assembly.{own_bytes, renewed, takes_number, takes_token, tokens_of, used, with_number};
 ghost use Rattle.ua_chunks.specs.Bodies.{KeepsGreeting, KeepsHello, KeepsOpnHead, error, error_at, greeting};
 ghost use Rattle.ua_chunks.specs.Bodies.{greeting_at, hello, hello_at, opn_head, opn_head_at, opn_of, policy_at};
@@ -28,6 +29,9 @@ ghost use Rattle.ua_chunks.specs.Framing.{Brings, Framing, IsBetween, StandsAt, 
 ghost use Rattle.ua_chunks.specs.Framing.{given, new_framing};
 ghost use Rattle.ua_chunks.specs.Sending.{IsSending, Sending, after_put, new_sending, none_policy, opn_part};
 ghost use Rattle.ua_chunks.specs.Sending.{parts_of, put_bytes, whole_part, part_bytes, with_limits};
+ghost use Rattle.ua_chunks.specs.Traffic.{Action, AreAllowed, Comes, Event, FramesBegin, HeardFault, IsDeaf};
+ghost use Rattle.ua_chunks.specs.Traffic.{actions_bytes, after_actions, all_heard, all_tokens, events_of, frames_in};
+ghost use Rattle.ua_chunks.specs.Traffic.{heard, hearing, said_by};
 ghost use Rattle.ua_chunks.specs.Streams.{AreFrom, IsFramed, after_frames, all_bytes};
 
 /// The frames of bytes are the longest list of frames that the bytes begin with: the frames' bytes and the rest are the
@@ -224,6 +228,39 @@ pub fn senders_stay_sound()
         → IsSending (with_limits size max_message max_chunks s) }
     ensures put { (k : Kind) (request : ℕ) (body : List ℕ) (s : Sending) → IsSending s
         → IsSending (after_put k request body s) }
+{}
+
+/// Everything that an end puts is heard as it was put: HEL, ACK, ERR, OPN, MSG and CLO in any order, while limits
+/// change and channels are renewed, by both ends at once or first by the one that hears. The bytes are these frames, however
+/// they are cut, and a front of them is a front of the frames, without a fault; what is heard of a front of the frames
+/// and renewals is a front of what is heard of all. Where a frame breaks a rule, what came before it is heard, then the
+/// fault, and then nothing.
+pub fn everything_put_is_heard()
+    ensures fed { (actions : List Action) (s : Sending) (t : Tokens) (f : Framing)
+        → IsBetween f → IsSending s → AreAllowed actions s t
+        → Brings (frames_in (events_of f.place actions s)) (actions_bytes actions s) f }
+    ensures heard { (place : ℕ) (actions : List Action) (s : Sending) (a : Assembly)
+        → IsSending s → InStep s a → AreAllowed actions s (tokens_of a)
+        → heard (events_of place actions s) a ≡ all_heard actions s }
+    ensures in_step { (place : ℕ) (actions : List Action) (s : Sending) (a : Assembly)
+        → IsSending s → InStep s a → AreAllowed actions s (tokens_of a)
+        → InStep (after_actions actions s) (hearing (events_of place actions s) a) }
+    ensures tokens { (place : ℕ) (actions : List Action) (s : Sending) (a : Assembly)
+        → IsSending s → InStep s a → AreAllowed actions s (tokens_of a)
+        → tokens_of (hearing (events_of place actions s) a) ≡ all_tokens actions s (tokens_of a) }
+    ensures sending { (actions : List Action) (s : Sending) (t : Tokens) → IsSending s → AreAllowed actions s t
+        → IsSending (after_actions actions s) }
+    ensures front { (front more : List ℕ) (actions : List Action) (s : Sending) (t : Tokens) (f : Framing)
+        → IsBetween f → IsSending s → AreAllowed actions s t → front ++ more ≡ actions_bytes actions s
+        → FramesBegin front (frames_in (events_of f.place actions s)) f }
+    ensures parts { (first second : List Event) (a : Assembly)
+        → heard (first ++ second) a ≡ heard first a ++ heard second (hearing first a) }
+    ensures broken { (first later : List Event) (f : Frame) (code : ℕ) (a : Assembly)
+        → (hearing first a).fault ≡ None → said_by f.kind f (hearing first a) ≡ Err code
+        → heard (first ++ Comes f ∷ later) a
+        ≡ heard first a ++ HeardFault (record { place = f.place; code = code }) ∷ [] }
+    ensures deaf { (events : List Event) (fault : MessageFault) (a : Assembly) → a.fault ≡ Some fault
+        → IsDeaf events fault a }
 {}
 
 /// HEL, ACK, ERR and the front of an OPN: no spelling is a proper front of another, and what is written is read again.

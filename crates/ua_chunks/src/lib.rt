@@ -23,7 +23,7 @@ pub use greeting::{
     write_hello,
 };
 pub use laws::{
-    an_opn_is_read, bodies_are_lawful, chunks_make_a_message, faults_stay,
+    an_opn_is_read, bodies_are_lawful, chunks_make_a_message, everything_put_is_heard, faults_stay,
     foreign_chunks_are_refused, frames_are_read_again, frames_are_the_longest, fronts_are_sound,
     greetings_are_read, messages_come_before_a_fault, numbers_follow, pieces_are_one,
     renewals_keep_step, senders_stay_sound, what_is_put_arrives,
