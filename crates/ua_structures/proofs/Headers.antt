@@ -1,10 +1,13 @@
 -- What reading a body's type, and a request's header, says in the words of the grammar.
-use Rattle.std.proofs.Common.{◌≡◌, ℕ, ◌≤◌, List, length, take, Result, Ok, Err, refl, ap, subst, inl, inr, ◌⊎◌}
+use Rattle.std.proofs.Common.{◌≡◌, ℕ, ℤ, ◌≤◌, ◌<◌, ◌^◌, List, length, take, Result, Ok, Err, refl, ap, subst, inl, inr, ◌⊎◌, FitsSigned}
+use Rattle.std.specs.Int.{w64}
+use Rattle.ua_values.specs.declared.node.NodeId.{NodeId}
 use Rattle.ua_values.specs.declared.fault.ValueFault.{ValueFault}
 use Rattle.ua_values.specs.declared.fault.ValueFault.TheVariants as faults
 use Rattle.ua_values.specs.Reading.{Input, input, Fault, Short, Bad, Fails, sized}
 use Rattle.ua_values.specs.Parts.{Chained, Begun}
 use Rattle.ua_values.specs.Codec.{Reads}
+use Rattle.ua_values.specs.Laws.{KeepsNode}
 use Rattle.ua_values.specs.Answer.{EndsEarly, IsFault}
 use Rattle.ua_values.proofs.Chain.{reads_on, reads_as}
 use Rattle.ua_values.proofs.Answers.{is_read}
@@ -13,7 +16,7 @@ use Rattle.ua_structures.specs.declared.body.BodyFault.TheVariants as body
 use Rattle.ua_structures.specs.declared.header.RequestHeader.{RequestHeader}
 use Rattle.ua_structures.specs.declared.front.BodyType.{BodyType}
 use Rattle.ua_structures.specs.Body.{type_id, type_at, body_fault, judged_type, body_type_at, Answers, IsTypeRead}
-use Rattle.ua_structures.specs.Structures.{a_request_header}
+use Rattle.ua_structures.specs.Structures.{an_unused_of_request, an_unused_of_response, a_request_header, request_header, a_response_header, response_header}
 use Rattle.ua_structures.specs.Header.{is_head, head_cut, head_at, judged_head, header_at, IsHeaderRead}
 use Rattle.ua_structures.proofs.Bodies.{type_reads}
 
@@ -93,3 +96,13 @@ pub front_fails : (bytes : List ℕ) (fault : ValueFault) → Fails fault (head_
 front_fails bytes faults.Short failed = ap (judged_head (length bytes)) failed
 front_fails bytes (faults.Bad place code) failed = ap (judged_head (length bytes)) failed
 front_fails bytes faults.OutOfMemory failed = tt
+
+-- ---- headers that are made of what is used
+
+pub request_header_keeps : (token : NodeId) (time : ℤ) (number : ℕ) → KeepsNode token → FitsSigned w64 time → number < 2 ^ 32 → a_request_header.keeps (request_header token time number)
+unfolding a_request_header an_unused_of_request
+request_header_keeps token time number token_keeps time_fits number_fits = (token_keeps, (time_fits, (number_fits, tt)))
+
+pub response_header_keeps : (time : ℤ) (number code : ℕ) → FitsSigned w64 time → number < 2 ^ 32 → code < 2 ^ 32 → a_response_header.keeps (response_header time number code)
+unfolding a_response_header an_unused_of_response
+response_header_keeps time number code time_fits number_fits code_fits = (time_fits, (number_fits, (code_fits, tt)))

@@ -40,9 +40,9 @@ a_request_header = structure (a_node_id then a_date_time then a_uint32 then an_u
     (λ h. (h.authentication_token, (h.timestamp, (h.request_handle, h.rest))))
     (λ f. record { authentication_token = f.0; timestamp = f.1.0; request_handle = f.1.1.0; rest = f.1.1.1 }) (λ h. refl) (λ f. refl)
 
--- the header of a request with this token, number and time: all else is what is never used
-abbrev pub request_header : NodeId → ℕ → ℤ → RequestHeader
-request_header token number time = record { authentication_token = token; timestamp = time; request_handle = number; rest = record {} }
+-- the header of a request with this token, time and number: all else is what is never used
+abbrev pub request_header : NodeId → ℤ → ℕ → RequestHeader
+request_header token time number = record { authentication_token = token; timestamp = time; request_handle = number; rest = record {} }
 
 -- OPC 10000-4, 7.29
 unfoldable pub a_response_header : Form ResponseHeader
@@ -50,9 +50,9 @@ a_response_header = structure (a_date_time then a_uint32 then a_uint32 then an_u
     (λ h. (h.timestamp, (h.request_handle, (h.service_result, h.rest))))
     (λ f. record { timestamp = f.0; request_handle = f.1.0; service_result = f.1.1.0; rest = f.1.1.1 }) (λ h. refl) (λ f. refl)
 
--- the header of a reply to the request of this number, with the StatusCode of the whole service and the time
-abbrev pub response_header : ℕ → ℕ → ℤ → ResponseHeader
-response_header number code time = record { timestamp = time; request_handle = number; service_result = code; rest = record {} }
+-- the header of a reply at this time to the request of this number, with the StatusCode of the whole service
+abbrev pub response_header : ℤ → ℕ → ℕ → ResponseHeader
+response_header time number code = record { timestamp = time; request_handle = number; service_result = code; rest = record {} }
 
 -- OPC 10000-4, 7.24
 unfoldable pub a_read_value_id : Form ReadValueId

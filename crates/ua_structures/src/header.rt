@@ -20,10 +20,10 @@ pub struct RequestHeader {
 }
 
 impl RequestHeader {
-    /// The header of a request with this token, number and time (100 nanoseconds since 1601-01-01 UTC). All else of it is 0, null or
-    /// empty; so it asks for no diagnostics and names no timeout. It takes no memory.
-    pub fn new(authentication_token: NodeId, request_handle: u32, timestamp: i64) -> RequestHeader
-        ensures { result ≡ request_header authentication_token request_handle timestamp }
+    /// The header of a request with this token, time (100 nanoseconds since 1601-01-01 UTC) and number. All else of it is 0, null or
+    /// empty: it asks for no diagnostics and names no timeout. It takes no memory.
+    pub fn new(authentication_token: NodeId, timestamp: i64, request_handle: u32) -> RequestHeader
+        ensures { result ≡ request_header authentication_token timestamp request_handle }
     {
         RequestHeader {
             authentication_token,
@@ -64,10 +64,10 @@ pub struct ResponseHeader {
 }
 
 impl ResponseHeader {
-    /// The header of a reply to the request of this number, with the StatusCode of the whole service and the time (100 nanoseconds since
-    /// 1601-01-01 UTC). All else of it is 0, null or empty.
-    pub fn new(request_handle: u32, service_result: u32, timestamp: i64) -> ResponseHeader
-        ensures { result ≡ response_header request_handle service_result timestamp }
+    /// The header of a reply at this time (100 nanoseconds since 1601-01-01 UTC) to the request of this number, with the StatusCode of
+    /// the whole service. All else of it is 0, null or empty.
+    pub fn new(timestamp: i64, request_handle: u32, service_result: u32) -> ResponseHeader
+        ensures { result ≡ response_header timestamp request_handle service_result }
     {
         ResponseHeader {
             timestamp,

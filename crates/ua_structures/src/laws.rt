@@ -1,8 +1,12 @@
 //! Laws of the shared structures and of any family, each the contract of a function that does nothing.
 
-ghost use Rattle.ua_values.specs.Laws.{IsLawful};
+ghost use Rattle.std.specs.Prelude.{◌<◌, ◌^◌, ℕ, ℤ, FitsSigned};
+ghost use Rattle.std.specs.Int.{w64};
+ghost use Rattle.ua_values.specs.declared.node.NodeId.{NodeId};
+ghost use Rattle.ua_values.specs.Laws.{IsLawful, KeepsNode};
 ghost use Rattle.ua_structures.specs.Body.{IsForeignUnknown};
 ghost use Rattle.ua_structures.specs.Structures.{a_request_header, a_response_header, a_read_value_id};
+ghost use Rattle.ua_structures.specs.Structures.{request_header, response_header};
 
 use crate::body::Body;
 
@@ -19,6 +23,14 @@ pub fn request_headers_are_lawful()
 /// A ResponseHeader.
 pub fn response_headers_are_lawful()
     ensures { IsLawful a_response_header.keeps a_response_header.spells a_response_header.at a_response_header.written }
+{}
+
+/// A header that is made of a token, a time and numbers keeps the rules, where these do: so it is read again as it was written.
+pub fn made_headers_keep()
+    ensures request { (token : NodeId) (time : ℤ) (number : ℕ) → KeepsNode token → FitsSigned w64 time → number < 2 ^ 32
+        → a_request_header.keeps (request_header token time number) }
+    ensures response { (time : ℤ) (number code : ℕ) → FitsSigned w64 time → number < 2 ^ 32 → code < 2 ^ 32
+        → a_response_header.keeps (response_header time number code) }
 {}
 
 /// A ReadValueId.

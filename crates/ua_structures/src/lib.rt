@@ -18,7 +18,7 @@ pub use fields::{Both, Fields};
 pub use front::{BodyType, read_header, read_type};
 pub use header::{RequestHeader, ResponseHeader};
 pub use laws::{
-    foreign_is_unknown, read_value_ids_are_lawful, request_headers_are_lawful,
+    foreign_is_unknown, made_headers_keep, read_value_ids_are_lawful, request_headers_are_lawful,
     response_headers_are_lawful,
 };
 pub use shared::ReadValueId;
