@@ -7,8 +7,6 @@ mod laws;
 mod member;
 mod node;
 mod nodes;
-#[cfg(test)]
-mod tests;
 mod texts;
 mod values;
 

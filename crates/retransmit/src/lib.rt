@@ -3,8 +3,6 @@
 
 mod laws;
 mod retransmission;
-#[cfg(test)]
-mod tests;
 
 pub use laws::keeps_what_is_available;
 pub use retransmission::{Kept, MOST_KEPT, Sent, Unknown};

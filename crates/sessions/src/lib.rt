@@ -8,8 +8,6 @@ mod ownership;
 mod results;
 mod session;
 mod table;
-#[cfg(test)]
-mod tests;
 mod tokens;
 
 pub use fault::SessionFault;

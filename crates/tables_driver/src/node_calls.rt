@@ -1,0 +1,197 @@
+//! The nodes of a server.
+
+use crate::stop::Stop;
+use crate::words::{change, number, put, put_bytes, text};
+use redundancy_nodes::{CurrentChanges, Member, Members, NodeFault, Nodes, class_of};
+use std::alloc::Global;
+use std::mem;
+use ua_base::OutOfMemory;
+use ua_values::{NodeId, UaBytes, UaText};
+use ua_variants::{DataValue, write_data_value};
+use uuid::Uuid;
+
+#[derive(Drop)]
+pub struct NodeTable {
+    nodes: Nodes,
+}
+
+/// How a value is told.
+#[derive(Clone, Copy)]
+enum Form {
+    /// Field by field.
+    Fields,
+    /// As it is written.
+    Bytes,
+}
+
+fn put_value(alloc: Global, form: Form, value: &DataValue, to: &mut String) -> Result<(), Stop> {
+    match form {
+        Form::Fields => put(to, format!(in alloc; "{value:?}")?.as_str()),
+        Form::Bytes => put_written(alloc, value, to),
+    }
+}
+
+fn put_written(alloc: Global, value: &DataValue, to: &mut String) -> Result<(), Stop> {
+    let mut bytes = Vec::new(alloc);
+    write_data_value(value, &mut bytes)?;
+    put_bytes(alloc, to, &bytes)
+}
+
+fn put_read(
+    alloc: Global,
+    form: Form,
+    read: &Result<DataValue, NodeFault>,
+    to: &mut String,
+) -> Result<(), Stop> {
+    match read {
+        Ok(value) => put_value(alloc, form, value, to),
+        Err(NodeFault::OutOfMemory) => Err(Stop::OutOfMemory),
+        Err(fault) => put(to, format!(in alloc; "{fault}")?.as_str()),
+    }
+}
+
+fn form_of(word: &str) -> Result<Form, Stop> {
+    match word {
+        "read" => Ok(Form::Fields),
+        "bytes" => Ok(Form::Bytes),
+        _ => Err(Stop::BadLine),
+    }
+}
+
+/// The id of a kind, in a namespace: a number, a name, the Guid of zeros, or the ByteString that isn't there.
+fn id_of(alloc: Global, kind: &str, namespace: u16, name: &str) -> Result<NodeId, Stop> {
+    match kind {
+        "number" => Ok(NodeId::Numeric {
+            namespace,
+            id: number(name)?,
+        }),
+        "name" => Ok(NodeId::Text {
+            namespace,
+            id: text(alloc, name)?,
+        }),
+        "guid" => Ok(NodeId::Guid {
+            namespace,
+            id: Uuid::nil(),
+        }),
+        "opaque" => Ok(NodeId::Opaque {
+            namespace,
+            id: UaBytes::null(),
+        }),
+        _ => Err(Stop::BadLine),
+    }
+}
+
+/// The nodes of a server without members and changes.
+fn empty(alloc: Global, uri: UaText) -> Nodes {
+    Nodes {
+        uri,
+        members: Members::new(Vec::new(alloc)),
+        support: 0,
+        level: 0,
+        start: 0,
+        now: 0,
+        items: 0,
+        current: CurrentChanges::new(Vec::new(alloc)),
+    }
+}
+
+impl NodeTable {
+    pub fn new(alloc: Global) -> NodeTable {
+        NodeTable {
+            nodes: empty(alloc, UaText::null()),
+        }
+    }
+
+    /// Makes the nodes anew, with the numbers of support, level, start, now and items.
+    fn make(&mut self, alloc: Global, uri: &str, words: [&str; 5]) -> Result<(), Stop> {
+        let [support, level, start, now, items] = words;
+        let mut nodes = empty(alloc, UaText::null());
+        nodes.support = number(support)?;
+        nodes.level = number(level)?;
+        nodes.start = number(start)?;
+        nodes.now = number(now)?;
+        nodes.items = number(items)?;
+        nodes.uri = text(alloc, uri)?;
+        self.nodes = nodes;
+        Ok(())
+    }
+
+    fn add_member(&mut self, alloc: Global, uri: &str, url: &str) -> Result<(), Stop> {
+        let member = Member {
+            uri: text(alloc, uri)?,
+            url: text(alloc, url)?,
+        };
+        let none = Members::new(Vec::new(alloc));
+        let mut members = mem::replace(&mut self.nodes.members, none).into_vec();
+        members.push(member)?;
+        self.nodes.members = Members::new(members);
+        Ok(())
+    }
+
+    /// Adds a change behind all others.
+    fn add_change(&mut self, alloc: Global, words: [&str; 3]) -> Result<(), Stop> {
+        let [item, at, value] = words;
+        let change = change(item, at, value)?;
+        let none = CurrentChanges::new(Vec::new(alloc));
+        let mut changes = mem::replace(&mut self.nodes.current, none).into_vec();
+        changes.push(change)?;
+        self.nodes.current = CurrentChanges::new(changes);
+        Ok(())
+    }
+
+    fn put_changes(&self, alloc: Global, to: &mut String) -> Result<(), Stop> {
+        let changes = self.nodes.current.as_slice();
+        put(to, format!(in alloc; "{changes:?}")?.as_str())
+    }
+
+    /// Puts copies of the members.
+    fn put_members(&self, alloc: Global, to: &mut String) -> Result<(), Stop> {
+        for member in self.nodes.members.as_slice() {
+            put_member(alloc, to, &member.copy(alloc))?;
+        }
+        Ok(())
+    }
+
+    /// Answers a call of these words.
+    pub fn answer(&mut self, alloc: Global, words: &[&str], to: &mut String) -> Result<(), Stop> {
+        match words {
+            ["new", uri, support, level, start, now, items] => {
+                self.make(alloc, uri, [support, level, start, now, items])?
+            }
+            ["member", uri, url] => self.add_member(alloc, uri, url)?,
+            ["change", item, at, value] => self.add_change(alloc, [item, at, value])?,
+            ["put", item, at, value] => self.nodes.current.put(change(item, at, value)?)?,
+            ["changes"] => return self.put_changes(alloc, to),
+            ["members"] => return self.put_members(alloc, to),
+            [verb, kind, namespace, name, attribute] => {
+                let id = id_of(alloc, kind, number(namespace)?, name)?;
+                let attribute = number(attribute)?;
+                return put_read(
+                    alloc,
+                    form_of(verb)?,
+                    &self.nodes.read_node(alloc, &id, attribute),
+                    to,
+                );
+            }
+            _ => return Err(Stop::BadLine),
+        }
+        put(to, "done")
+    }
+}
+
+fn put_member(
+    alloc: Global,
+    to: &mut String,
+    member: &Result<Member, OutOfMemory>,
+) -> Result<(), Stop> {
+    match member {
+        Ok(member) => put(to, format!(in alloc; "{member:?}")?.as_str()),
+        Err(_) => Err(Stop::OutOfMemory),
+    }
+}
+
+/// Answers the class of a level.
+pub fn answer_class(alloc: Global, level: &str, to: &mut String) -> Result<(), Stop> {
+    let class = class_of(number(level)?);
+    put(to, format!(in alloc; "{class:?}")?.as_str())
+}
