@@ -2,11 +2,12 @@ ghost use Rattle.std.specs.Prelude.{◌≡◌, ◌↔◌, Some, None, option_map
 ghost use Rattle.std.specs.Option.{is_none, option_copied};
 
 use std::alloc::Global;
+use std::fmt;
 use std::marker::Model;
 use ua_base::OutOfMemory;
 
 /// Bytes that stand behind a length.
-#[derive(Debug, Drop)]
+#[derive(Drop)]
 struct Run {
     bytes: Vec<u8>,
 }
@@ -20,7 +21,7 @@ impl Model for Run {
 }
 
 /// Null, or bytes: what a text and a ByteString both are.
-#[derive(Debug, Drop)]
+#[derive(Drop)]
 struct Nullable {
     run: Option<Run>,
 }
@@ -86,9 +87,28 @@ impl Nullable {
     }
 }
 
+impl fmt::Debug for Nullable {
+    /// `null`, or `x` and the bytes in hexadecimal.
+    fn fmt<W: fmt::Write>(&self, f: &mut fmt::Formatter<W>) -> fmt::Result {
+        match self.bytes() {
+            None => f.write_str("null"),
+            Some(bytes) => write_digits(bytes, f),
+        }
+    }
+}
+
+/// Writes `x` and bytes in hexadecimal.
+fn write_digits<W: fmt::Write>(bytes: &[u8], f: &mut fmt::Formatter<W>) -> fmt::Result {
+    f.write_str("x")?;
+    for byte in bytes {
+        write!(f, "{byte:02x}")?;
+    }
+    Ok(())
+}
+
 /// A String or an XmlElement (OPC 10000-6, 5.2.2.4): null, or bytes. They are UTF-8 where a peer keeps the rules;
 /// nothing here looks.
-#[derive(Debug, Drop)]
+#[derive(Drop)]
 pub struct UaText {
     inner: Nullable,
 }
@@ -102,7 +122,7 @@ impl Model for UaText {
 }
 
 /// A ByteString (OPC 10000-6, 5.2.2.7): null, or bytes.
-#[derive(Debug, Drop)]
+#[derive(Drop)]
 pub struct UaBytes {
     inner: Nullable,
 }
@@ -113,6 +133,20 @@ impl Model for UaBytes {
     ghost Value = { Option (List ℕ) };
 
     ghost view = { λ t. t.inner };
+}
+
+impl fmt::Debug for UaText {
+    /// `null`, or `x` and the bytes in hexadecimal.
+    fn fmt<W: fmt::Write>(&self, f: &mut fmt::Formatter<W>) -> fmt::Result {
+        self.inner.fmt(f)
+    }
+}
+
+impl fmt::Debug for UaBytes {
+    /// `null`, or `x` and the bytes in hexadecimal.
+    fn fmt<W: fmt::Write>(&self, f: &mut fmt::Formatter<W>) -> fmt::Result {
+        self.inner.fmt(f)
+    }
 }
 
 impl UaText {
