@@ -3,16 +3,16 @@
 use Rattle.std.proofs.Common.{◌≡◌, ◌≢◌, ◌==◌, ◌&&◌, ℕ, ◌+◌, ◌≤◌, List, ◌∷◌, Bool, true, false, Option, Some, None, length, refl, sym, ap, subst, ◌∙◌, arith}
 use Rattle.std.specs.Prelude.{slice_get, IsSomeAnd, if◌then◌else◌}
 use Rattle.std.proofs.lemmas.Bool.Decides.{nat_tests}
-use Rattle.ua_base.specs.declared.status.TheConstants.{OVERFLOW_BITS}
+use Rattle.ua_base.specs.Status.{overflow_bits}
 use Rattle.set_model.specs.declared.source.Change.{Change}
 use Rattle.set_model.specs.declared.line.Arrived.{Arrived}
-use Rattle.set_model.specs.Source.{of_item}
+use Rattle.set_model.specs.Source.{of_item, stamp_of}
 use Rattle.item_queue.specs.declared.queue.Entry.{Entry}
 use Rattle.item_queue.specs.State.{QueueState}
-use Rattle.delivery_log.specs.declared.rule.Joint.{Joint}
 use Rattle.delivery_log.specs.declared.rule.Joint.TheVariants.{Joined}
-use Rattle.delivery_log.specs.Judge.{has_overflow, joint_after}
-use Rattle.delivery_log.specs.History.{Act, Enter, Set, joint_of, previous}
+use Rattle.delivery_log.specs.declared.rule.Turn.{Turn}
+use Rattle.delivery_log.specs.Judge.{has_overflow, joint_after, turned}
+use Rattle.delivery_log.specs.History.{Act, Enter, TurnAll, joint_of, previous}
 use Rattle.delivery_log.specs.WellFed.{IsAt, IsFedEntry, Linked}
 use Rattle.direct_world.specs.Server.{arrived}
 use Rattle.direct_world.proofs.Held.{HeldFrom}
@@ -73,40 +73,43 @@ same_entered s i server item entry history is = record {
   previous_is = ap (λ b. if b then Some entry else previous server item history) is;
 }
 
--- a joint that is set elsewhere
-pub same_set : (s i server item : ℕ) (joint : Joint) (history : List Act) → is_here s i server item ≡ false
-    → SameAt server item history (Set s i joint ∷ history)
-same_set s i server item joint history is = record {
-  joint = ap (λ b. if b then joint else joint_of server item history) is;
+-- what befalls the joints of another server
+pub same_turned : (s server item : ℕ) (turn : Turn) (history : List Act) → (s == server) ≡ false → SameAt server item history (TurnAll s turn ∷ history)
+same_turned s server item turn history is = record {
+  joint = ap (λ b. if b then turned turn (joint_of server item history) else joint_of server item history) is;
   previous_is = refl;
 }
 
 pub entered_here : (server item : ℕ) (entry : Arrived) (history : List Act) → previous server item (Enter server item entry ∷ history) ≡ Some entry
 entered_here server item entry history = ap (λ b. if b then Some entry else previous server item history) (is_here_self server item)
 
-pub set_here : (server item : ℕ) (joint : Joint) (history : List Act) → joint_of server item (Set server item joint ∷ history) ≡ joint
-set_here server item joint history = ap (λ b. if b then joint else joint_of server item history) (is_here_self server item)
+-- what befalls the joints of a server
+pub turned_here : (server item : ℕ) (turn : Turn) (history : List Act)
+    → joint_of server item (TurnAll server turn ∷ history) ≡ turned turn (joint_of server item history)
+turned_here server item turn history =
+    let self : (server == server) ≡ true = grind (arith, nat_tests) in
+    ap (λ b. if b then turned turn (joint_of server item history) else joint_of server item history) self
 
 pub some_map : {A : Type 0} (o : Option A) (P Q : A → Type 0) → ((x : A) → P x → Q x) → IsSomeAnd o P → IsSomeAnd o Q
 some_map None P Q f h = h
 some_map (Some x) P Q f h = f x h
 
-mark_shown : (marked : Bool) → has_overflow (if marked then OVERFLOW_BITS else 0) ≡ false → marked ≡ false
+mark_shown : (marked : Bool) → has_overflow (if marked then overflow_bits else 0) ≡ false → marked ≡ false
 mark_shown true h = absurd cc
 mark_shown false h = refl
 
 pub entry_at : (source : List Change) (item place : ℕ) (entry : Entry) → slice_get (of_item item source) place ≡ Some entry.change
     → IsAt source item (arrived entry) place
 entry_at source item place entry here = record {
-  time = entry.change.time;
+  stamp = stamp_of entry.change;
   timed = refl;
-  shows = record { change = entry.change; here = here; time_is = refl; value_is = refl };
+  shows = record { change = entry.change; here = here; stamp_is = refl; value_is = refl };
 }
 
 pub fed_entry : (source : List Change) (item place : ℕ) (entry : Entry) → slice_get (of_item item source) place ≡ Some entry.change
     → IsFedEntry source item (arrived entry)
 fed_entry source item place entry here = record {
-  fed = λ time t. (place, record { change = entry.change; here = here; time_is = cc; value_is = refl });
+  fed = λ stamp t. (place, record { change = entry.change; here = here; stamp_is = cc; value_is = refl });
 }
 
 pub linked_entry : (source : List Change) (item next place : ℕ) (entry : Entry) (former : Arrived) → slice_get (of_item item source) place ≡ Some entry.change

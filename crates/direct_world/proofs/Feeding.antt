@@ -15,7 +15,7 @@ use Rattle.direct_world.proofs.Held.{HeldFrom, held_push}
 use Rattle.direct_world.proofs.Fed.{ItemFed}
 use Rattle.direct_world.proofs.Taking.{QueuesFed}
 
-get_seam : (xs : List Change) (c : Change) (ys : List Change) → slice_get (xs ++ c ∷ ys) (length xs) ≡ Some c
+pub get_seam : (xs : List Change) (c : Change) (ys : List Change) → slice_get (xs ++ c ∷ ys) (length xs) ≡ Some c
 get_seam [] c ys = refl
 get_seam (x ∷ xs) c ys = get_seam xs c ys
 
@@ -55,7 +55,7 @@ fed_own source history server item front c rest queue whole is h = record {
   size = h.size;
   next = h.next;
   held = let P : ℕ → Type 0 = λ n. HeldFrom (of_item item source) h.next (pushed c queue).entries n in
-      subst P (sym (more_of item front c true is)) (held_push (of_item item source) h.next queue.size queue.entries _ c h.size h.held (next_change source front c rest item whole is));
+      subst P (sym (more_of item front c true is)) (held_push queue.oldest (of_item item source) h.next queue.size queue.entries _ c h.size h.held (next_change source front c rest item whole is));
   joined = h.joined;
 }
 

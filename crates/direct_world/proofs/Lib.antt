@@ -1,3 +1,4 @@
+pub mod Acting
 pub mod Shapes
 pub mod Held
 pub mod Fed
@@ -7,4 +8,6 @@ pub mod Starting
 pub mod Servers
 pub mod Kept
 pub mod Law
-pub mod Boots
+pub mod Living
+pub mod Lived
+pub mod Plainness

@@ -1,6 +1,5 @@
 -- What the servers of a world owe, and what a line of one server keeps of it.
-use Rattle.std.proofs.Common.{◌≡◌, ◌≢◌, ℕ, zero, suc, ◌+◌, ◌<◌, ◌≤◌, List, [], ◌∷◌, ◌++◌, Bool, true, false, Option, Some, None, length, take, drop, refl, sym, ap, subst, ◌∙◌, arith, slice_set}
-use Rattle.std.specs.Prelude.{if◌then◌else◌}
+use Rattle.std.proofs.Common.{◌≡◌, ◌≢◌, ℕ, zero, suc, ◌+◌, ◌<◌, ◌≤◌, List, [], ◌∷◌, ◌++◌, Option, Some, None, length, take, drop, refl, sym, ap, subst, ◌∙◌, arith, slice_set}
 use Rattle.std.proofs.lemmas.List.{append_assoc, length-append, length-set, take-append-drop, drop-append-le, length-take, length-drop}
 use Rattle.std.proofs.Math.Seq.{take-append_seam}
 use Rattle.set_model.specs.declared.source.Change.{Change}
@@ -9,7 +8,8 @@ use Rattle.delivery_log.specs.declared.rule.Joint.TheVariants.{Open}
 use Rattle.set_model.specs.declared.line.GapCause.TheVariants.{Late}
 use Rattle.delivery_log.specs.History.{Act, joint_of}
 use Rattle.direct_world.specs.State.{ServerState}
-use Rattle.direct_world.specs.Server.{place_in, pushed_at, pushed_all, fed, fed_with, stopped, started, opened_from}
+use Rattle.direct_world.specs.Lives.{values_from}
+use Rattle.direct_world.specs.Server.{place_in, next_of, pushed_at, pushed_all, fed, stopped, started, opened_all, values_of}
 use Rattle.direct_world.specs.World.{server_at}
 use Rattle.direct_world.proofs.Fed.{SameAt}
 use Rattle.direct_world.proofs.Taking.{QueuesFed, queues_elsewhere}
@@ -78,17 +78,18 @@ length-pushed_at : (place : Option ℕ) (c : Change) (queues : List QueueState) 
 length-pushed_at None c queues = refl
 length-pushed_at (Some place) c queues = length-set queues place _
 
-length-pushed_all : (changes : List Change) (queues : List QueueState) → length (pushed_all changes queues) ≡ length queues
+pub length-pushed_all : (changes : List Change) (queues : List QueueState) → length (pushed_all changes queues) ≡ length queues
 length-pushed_all [] queues = refl
 length-pushed_all (c ∷ changes) queues =
     length-pushed_all changes (pushed_at (place_in c.item (length queues)) c queues) ∙ length-pushed_at (place_in c.item (length queues)) c queues
 
-length-opened_from : (item : ℕ) (source : List Change) (queues : List QueueState) → length (opened_from item source queues) ≡ length queues
-length-opened_from item source [] = refl
-length-opened_from item source (queue ∷ queues) = ap suc (length-opened_from (item + 1) source queues)
+pub length-opened_all : (item : ℕ) (source : List Change) (queues : List QueueState)
+    → length (opened_all (values_from item (length queues) source) queues) ≡ length queues
+length-opened_all item source [] = refl
+length-opened_all item source (queue ∷ queues) = ap suc (length-opened_all (item + 1) source queues)
 
 -- a source that goes on splits at a position, before the changes that are fed, and after them
-feed_split : (so_far more : List Change) (position count : ℕ) → position ≤ length so_far
+pub feed_split : (so_far more : List Change) (position count : ℕ) → position ≤ length so_far
     → so_far ++ more ≡ take position (so_far ++ more) ++ (take count (drop position so_far) ++ (drop count (drop position so_far) ++ more))
 feed_split so_far more position count le =
     sym (take-append-drop position (so_far ++ more))
@@ -97,13 +98,14 @@ feed_split so_far more position count le =
     ∙ ap (λ x. x ++ more) (sym (take-append-drop count (drop position so_far)))
     ∙ append_assoc (take count (drop position so_far)) (drop count (drop position so_far)) more)
 
-feeds_running : (so_far more : List Change) (history : List Act) (items number count : ℕ) (s : ServerState)
+-- a server is fed
+pub feeds : (so_far more : List Change) (history : List Act) (items number count : ℕ) (s : ServerState)
     → ServerFed (so_far ++ more) so_far history items number s
-    → ServerFed (so_far ++ more) so_far history items number (fed_with (take count (drop s.position so_far)) s)
-feeds_running so_far more history items number count s h =
+    → ServerFed (so_far ++ more) so_far history items number (fed (next_of count so_far s) s)
+feeds so_far more history items number count s h =
     let source = so_far ++ more in
     let front = take s.position source in
-    let next = take count (drop s.position so_far) in
+    let next = next_of count so_far s in
     let rest = drop count (drop s.position so_far) ++ more in
     let whole : source ≡ front ++ (next ++ rest) = feed_split so_far more s.position count h.within in
     let width : length front ≡ s.position = omega (arith, length-take s.position source, length-append so_far more, h.within) in
@@ -119,17 +121,6 @@ feeds_running so_far more history items number count s h =
       queues = subst P (sym up_to) (fed_all source history number front next rest s.queues whole h.queues);
     }
 
-feeds_if : (running : Bool) (so_far more : List Change) (history : List Act) (items number count : ℕ) (s : ServerState)
-    → ServerFed (so_far ++ more) so_far history items number s
-    → ServerFed (so_far ++ more) so_far history items number (if running then fed_with (take count (drop s.position so_far)) s else s)
-feeds_if true so_far more history items number count s h = feeds_running so_far more history items number count s h
-feeds_if false so_far more history items number count s h = h
-
--- a server is fed
-pub feeds : (so_far more : List Change) (history : List Act) (items number count : ℕ) (s : ServerState)
-    → ServerFed (so_far ++ more) so_far history items number s → ServerFed (so_far ++ more) so_far history items number (fed count so_far s)
-feeds so_far more history items number count s h = feeds_if s.running so_far more history items number count s h
-
 -- a server stops
 pub stops : (source so_far : List Change) (history : List Act) (items number : ℕ) (s : ServerState)
     → ServerFed source so_far history items number s → ServerFed source so_far history items number (stopped s)
@@ -140,9 +131,9 @@ pub starts : (so_far more : List Change) (before after : List Act) (items number
     → ((i : ℕ) → 1 ≤ i → i ≤ items → joint_of number i after ≡ Open Late)
     → ServerFed (so_far ++ more) so_far before items number s → ServerFed (so_far ++ more) so_far after items number (started so_far s)
 starts so_far more before after items number s late h =
-    let P : List Change → Type 0 = λ f. QueuesFed (so_far ++ more) after number 1 f (opened_from 1 so_far s.queues) in
+    let P : List Change → Type 0 = λ f. QueuesFed (so_far ++ more) after number 1 f (opened_all (values_of so_far s) s.queues) in
     record {
-      width = length-opened_from 1 so_far s.queues ∙ h.width;
+      width = length-opened_all 1 so_far s.queues ∙ h.width;
       within = omega arith;
       queues = subst P (sym (take-append_seam so_far more))
           (opens_queues so_far more before after number 1 _ s.queues (λ i least under. late i least (omega (arith, h.width))) h.queues);

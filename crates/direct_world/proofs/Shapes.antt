@@ -1,7 +1,8 @@
 -- The shape of a world stays as it is.
-use Rattle.std.proofs.Common.{◌≡◌, ℕ, zero, suc, ◌<◌, List, [], ◌∷◌, length, sym, ap, subst, ◌^◌, ◌∙◌, arith, slice_index_or, slice_set, None, Option, ℤ}
+use Rattle.std.proofs.Common.{◌≡◌, ℕ, zero, suc, ◌<◌, List, [], ◌∷◌, length, sym, ap, subst, ◌^◌, ◌∙◌, arith, slice_index_or, slice_set, None, Option, Bool}
 use Rattle.std.specs.Prelude.{replicate}
 use Rattle.std.proofs.lemmas.List.{length-set, length-replicate}
+use Rattle.set_model.specs.declared.stamp.Stamp.{Stamp}
 use Rattle.delivery_log.specs.State.{LogState}
 use Rattle.delivery_log.specs.Log.{new_log}
 use Rattle.direct_world.specs.State.{ServerState}
@@ -45,23 +46,23 @@ pub shaped_at : (servers : List ServerState) (log : LogState) (place : ℕ) (old
     → old ≡ slice_index_or servers place old → IsShaped servers log → length old.queues ≡ length log.lasts
 shaped_at servers log place old p is h = ap (λ x. length x.queues) is ∙ have_at (length log.lasts) servers place old h.queues p
 
-have_new : (servers items size : ℕ) → HaveQueues items (replicate servers (new_server items size))
-have_new zero items size = tt
-have_new (suc n) items size = (length-replicate items _, have_new n items size)
+have_new : (servers items : ℕ) (oldest : Bool) (size : ℕ) → HaveQueues items (replicate servers (new_server items oldest size))
+have_new zero items oldest size = tt
+have_new (suc n) items oldest size = (length-replicate items _, have_new n items oldest size)
 
 -- a new world is shaped
-pub shaped_new : (servers items size : ℕ) → servers < 2 ^ 8 → items < 2 ^ 8 → IsShaped (replicate servers (new_server items size)) (new_log servers items)
-shaped_new servers items size s i = record {
-  queues = let P : ℕ → Type 0 = λ n. HaveQueues n (replicate servers (new_server items size)) in
-      subst P (sym (length-replicate items _)) (have_new servers items size);
+pub shaped_new : (servers items : ℕ) (oldest : Bool) (size : ℕ) → servers < 2 ^ 8 → items < 2 ^ 8 → IsShaped (replicate servers (new_server items oldest size)) (new_log servers items)
+shaped_new servers items oldest size s i = record {
+  queues = let P : ℕ → Type 0 = λ n. HaveQueues n (replicate servers (new_server items oldest size)) in
+      subst P (sym (length-replicate items _)) (have_new servers items oldest size);
   joints = length-replicate servers _ ∙ sym (length-replicate servers _);
-  few_servers = omega (arith, length-replicate servers (new_server items size));
-  few_items = omega (arith, length-replicate {A = Option ℤ} items None);
+  few_servers = omega (arith, length-replicate servers (new_server items oldest size));
+  few_items = omega (arith, length-replicate {A = Option Stamp} items None);
 }
 
-pub shaped_made : (servers items size : ℕ) (made : List ServerState) (log : LogState) → servers < 2 ^ 8 → items < 2 ^ 8
-    → made ≡ replicate servers (new_server items size) → log ≡ new_log servers items → IsShaped made log
-shaped_made servers items size made log s i m l =
+pub shaped_made : (servers items : ℕ) (oldest : Bool) (size : ℕ) (made : List ServerState) (log : LogState) → servers < 2 ^ 8 → items < 2 ^ 8
+    → made ≡ replicate servers (new_server items oldest size) → log ≡ new_log servers items → IsShaped made log
+shaped_made servers items oldest size made log s i m l =
     let P : List ServerState → Type 0 = λ x. IsShaped x log in
-    let Q : LogState → Type 0 = λ x. IsShaped (replicate servers (new_server items size)) x in
-    subst P (sym m) (subst Q (sym l) (shaped_new servers items size s i))
+    let Q : LogState → Type 0 = λ x. IsShaped (replicate servers (new_server items oldest size)) x in
+    subst P (sym m) (subst Q (sym l) (shaped_new servers items oldest size s i))

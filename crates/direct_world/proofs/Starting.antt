@@ -1,5 +1,5 @@
 -- What the start of a life keeps: each queue begins with its item's current value, and each joint is late.
-use Rattle.std.proofs.Common.{◌≡◌, ◌≢◌, ◌==◌, ℕ, zero, suc, ◌+◌, ◌-◌, ◌<◌, ◌≤◌, List, [], ◌∷◌, ◌++◌, Bool, true, false, Option, Some, None, length, refl, sym, ap, subst, ◌∙◌, arith}
+use Rattle.std.proofs.Common.{◌≡◌, ◌≢◌, ◌==◌, ℕ, zero, suc, ◌+◌, ◌-◌, ◌<◌, ◌≤◌, List, [], ◌∷◌, ◌++◌, false, Option, Some, None, length, refl, sym, ap, subst, ◌∙◌, arith}
 use Rattle.std.specs.Prelude.{slice_get}
 use Rattle.std.proofs.lemmas.Bool.Decides.{nat_tests}
 use Rattle.std.proofs.lemmas.List.Elements.{filter-append}
@@ -10,12 +10,14 @@ use Rattle.set_model.proofs.SourceLemmas.{newest, newest_from, last_of-newest}
 use Rattle.item_queue.specs.State.{QueueState}
 use Rattle.item_queue.specs.Queue.{empty_queue, pushed}
 use Rattle.delivery_log.specs.declared.rule.Joint.TheVariants.{Joined, Open}
-use Rattle.delivery_log.specs.History.{Act, Set, joint_of}
+use Rattle.delivery_log.specs.declared.rule.Turn.TheVariants.{Become}
+use Rattle.delivery_log.specs.History.{Act, joint_of}
 use Rattle.delivery_log.specs.WellFed.{WellFed}
-use Rattle.direct_world.specs.Server.{opened, opened_from}
-use Rattle.direct_world.specs.History.{reopening}
+use Rattle.direct_world.specs.Acts.{reopening, with_acts}
+use Rattle.direct_world.specs.Lives.{values_from}
+use Rattle.direct_world.specs.Server.{opened, opened_all}
 use Rattle.direct_world.proofs.Held.{HeldFrom, held_push}
-use Rattle.direct_world.proofs.Fed.{ItemFed, SameAt, same_at, same_then, same_set, set_here, other_item, other_server}
+use Rattle.direct_world.proofs.Fed.{ItemFed, SameAt, same_turned, turned_here}
 use Rattle.direct_world.proofs.Taking.{QueuesFed}
 
 get_front : (xs ys : List Change) (k : ℕ) (c : Change) → slice_get xs k ≡ Some c → slice_get (xs ++ ys) k ≡ Some c
@@ -57,47 +59,32 @@ opens_by source more history server item queue (Some c) is two late =
     let whole = filter-append (λ d. d.item == item) source more in
     let here : slice_get (of_item item (source ++ more)) next ≡ Some c =
     ap (λ s. slice_get s next) whole ∙ get_front (of_item item source) (of_item item more) next c last.0 in
-    let P : ℕ → Type 0 = λ n. HeldFrom (of_item item (source ++ more)) next (pushed c (empty_queue queue.size)).entries n in
+    let P : ℕ → Type 0 = λ n. HeldFrom (of_item item (source ++ more)) next (pushed c (empty_queue queue.oldest queue.size)).entries n in
     record {
       size = two;
       next = next;
-      held = subst P (omega (arith, last.1)) (held_push (of_item item (source ++ more)) next queue.size [] next c two refl here);
+      held = subst P (omega (arith, last.1)) (held_push queue.oldest (of_item item (source ++ more)) next queue.size [] next c two refl here);
       joined = λ j. open_not_joined (sym late ∙ j);
     }
 
 -- each queue begins anew
 pub opens_queues : (source more : List Change) (before after : List Act) (server item : ℕ) (front : List Change) (queues : List QueueState)
     → ((i : ℕ) → item ≤ i → i < item + length queues → joint_of server i after ≡ Open Late)
-    → QueuesFed (source ++ more) before server item front queues → QueuesFed (source ++ more) after server item source (opened_from item source queues)
+    → QueuesFed (source ++ more) before server item front queues → QueuesFed (source ++ more) after server item source (opened_all (values_from item (length queues) source) queues)
 opens_queues source more before after server item front [] late h = tt
 opens_queues source more before after server item front (queue ∷ queues) late h = (
   opens_by source more after server item queue _ refl h.0.size (late item (omega arith) (omega arith)),
   opens_queues source more before after server (item + 1) front queues (λ i le under. late i (omega arith) (omega arith)) h.1,
 )
 
--- the joints of a server's first items are open, and others are as they were
-pub reopens : (server items : ℕ) (history : List Act) (i : ℕ) → 1 ≤ i → i ≤ items → joint_of server i (reopening server items history) ≡ Open Late
-reopens server zero history i least most = absurd (omega arith)
-reopens server (suc items) history i least most = by (i == suc items) refl (λ under. reopens server items history i least under)
-  where
-    by : (b : Bool) → (i == suc items) ≡ b → (i ≤ items → joint_of server i (reopening server items history) ≡ Open Late)
-        → joint_of server i (Set server (suc items) (Open Late) ∷ reopening server items history) ≡ Open Late
-    by true is below =
-        let same : i ≡ suc items = grind (arith, nat_tests) in
-        let P : ℕ → Type 0 = λ n. joint_of server n (Set server (suc items) (Open Late) ∷ reopening server items history) ≡ Open Late in
-        subst P (sym same) (set_here server (suc items) (Open Late) (reopening server items history))
-    by false is below =
-        let off : suc items ≢ i = grind (arith, nat_tests) in
-        let under : i < suc items = grind (arith, nat_tests) in
-        let apart = other_item server (suc items) server i off in
-        (same_set server (suc items) server i (Open Late) (reopening server items history) apart).joint ∙ below (omega arith)
+-- the joints of a server are open, and others are as they were
+pub reopens : (server : ℕ) (history : List Act) (i : ℕ) → joint_of server i (with_acts (reopening server) history) ≡ Open Late
+reopens server history i = turned_here server i (Become (Open Late)) history
 
-pub reopens_other : (server items : ℕ) (history : List Act) (s i : ℕ) → server ≢ s → SameAt s i history (reopening server items history)
-reopens_other server zero history s i off = same_at s i history
-reopens_other server (suc items) history s i off =
-    same_then s i history (reopening server items history) _ (reopens_other server items history s i off)
-    (same_set server (suc items) s i (Open Late) (reopening server items history) (other_server server (suc items) s i off))
+pub reopens_other : (server : ℕ) (history : List Act) (s i : ℕ) → server ≢ s → SameAt s i history (with_acts (reopening server) history)
+reopens_other server history s i off =
+    let apart : (server == s) ≡ false = grind (arith, nat_tests) in
+    same_turned server s i (Become (Open Late)) history apart
 
-pub reopens_well : (source : List Change) (server items : ℕ) (history : List Act) → WellFed source history → WellFed source (reopening server items history)
-reopens_well source server zero history well = well
-reopens_well source server (suc items) history well = (tt, tt, reopens_well source server items history well)
+pub reopens_well : (source : List Change) (server : ℕ) (history : List Act) → WellFed source history → WellFed source (with_acts (reopening server) history)
+reopens_well source server history well = (tt, tt, well)

@@ -4,7 +4,8 @@ use Rattle.set_model.specs.declared.source.Change.{Change}
 use Rattle.item_queue.specs.State.{QueueState}
 use Rattle.delivery_log.specs.State.{LogState}
 
--- one server: its boot number, whether it runs, how many changes of the source it was given, and each item's queue, item 1 first
+-- one server: its boot number, whether it runs, its position (how many changes of the source it was given or began
+-- after), and each item's queue, item 1 first
 pub record ServerState : Type 0 where
   pub boot : ℕ
   pub running : Bool

@@ -1,85 +1,111 @@
--- The world of direct servers, line by line.
-use Rattle.std.specs.Prelude.{ℕ, ◌+◌, List, [], ◌∷◌, ◌++◌, Bool, true, false, Option, Some, None, length, replicate, slice_index_or, slice_set, zero, suc}
+-- The world of direct servers, line by line: each line is a step, which says what it makes of the source and the
+-- servers and what it does; the client's log is what the steps' acts make of it.
+use Rattle.std.specs.Prelude.{ℕ, ◌+◌, List, [], ◌∷◌, ◌++◌, Bool, true, false, Option, Some, None, length, replicate, nat_le, if◌then◌else◌, slice_index_or, slice_set}
 use Rattle.set_model.specs.declared.source.Change.{Change}
 use Rattle.set_model.specs.declared.source.SourceFault.{SourceFault}
-use Rattle.set_model.specs.declared.line.GapCause.TheVariants.{Late}
 use Rattle.set_model.specs.Source.{refusal}
-use Rattle.delivery_log.specs.declared.rule.Joint.TheVariants.{Open}
-use Rattle.delivery_log.specs.State.{LogState}
-use Rattle.delivery_log.specs.Log.{new_log, with_joint}
+use Rattle.delivery_log.specs.History.{Act}
+use Rattle.delivery_log.specs.Log.{new_log}
 use Rattle.scenario.specs.declared.line.Line.{Line}
 use Rattle.scenario.specs.declared.line.Line.TheVariants as line
 use Rattle.direct_world.specs.State.{ServerState, WorldState}
-use Rattle.direct_world.specs.Server.{place_in, new_server, fed, stopped, started, log_after, left_after}
+use Rattle.direct_world.specs.Acts.{after_acts, reopening, taking}
+use Rattle.direct_world.specs.Lives.{LifeAct, Begins, feeding}
+use Rattle.direct_world.specs.Server.{place_in, new_server, next_of, fed, stopped, started, next_boot, values_of, left_after}
+
+-- what a line comes to: the source and the servers after it, what it does to the client's log, and what it gives to the
+-- servers' lives
+pub record Step : Type 0 where
+  pub source : List Change
+  pub servers : List ServerState
+  pub acts : List Act
+  pub lives : List LifeAct
+
+-- nothing happens
+abbrev pub rest : WorldState → Step
+rest w = record { source = w.source; servers = w.servers; acts = []; lives = [] }
 
 abbrev pub appended_unless : Option SourceFault → Change → List Change → List Change
 appended_unless None change source = source ++ change ∷ []
 appended_unless (Some fault) change source = source
 
--- the source with one change more, unless it refuses it; in a valid scenario it refuses none
+-- the source with one change more, unless it can't be one of it; in a valid scenario each can
 abbrev pub appended : Change → List Change → List Change
-appended change source = appended_unless (refusal source change) change source
+appended change source =
+    if nat_le change.pico 9999 then appended_unless (refusal source change) change source else source
 
 -- the server of a place; there is one wherever it is asked for
 abbrev pub server_at : ℕ → List ServerState → ServerState
-server_at place servers = slice_index_or servers place (new_server 0 2)
+server_at place servers = slice_index_or servers place (new_server 0 true 2)
 
--- the joints of a server's first items are those of a new life
-abbrev pub reopened : ℕ → ℕ → LogState → LogState
-reopened server zero log = log
-reopened server (suc items) log = with_joint server (suc items) (Open Late) (reopened server items log)
-
-abbrev pub with_server : ℕ → ServerState → WorldState → WorldState
-with_server place server w = record w { servers = slice_set w.servers place server }
-
--- the client takes from the server of a place, if it runs
-abbrev pub taken_if : Bool → ℕ → ℕ → ServerState → WorldState → WorldState
-taken_if false place count server w = w
-taken_if true place count server w = record (with_server place (record server { queues = left_after count server.queues }) w) {
-  log = log_after (place + 1) 1 count server.queues w.log;
+-- a server that runs is fed these changes
+abbrev pub fed_if : Bool → ℕ → List Change → ServerState → WorldState → Step
+fed_if false place changes server w = rest w
+fed_if true place changes server w = record (rest w) {
+  servers = slice_set w.servers place (fed changes server);
+  lives = feeding (place + 1) changes;
 }
 
-abbrev pub fed_at : ℕ → ℕ → WorldState → WorldState
-fed_at count place w = with_server place (fed count w.source (server_at place w.servers)) w
+-- the client takes from a server that runs, up to so many of each item
+abbrev pub taken_if : Bool → ℕ → ℕ → ServerState → WorldState → Step
+taken_if false place count server w = rest w
+taken_if true place count server w = record (rest w) {
+  servers = slice_set w.servers place (record server { queues = left_after count server.queues });
+  acts = taking (place + 1) 1 count server.queues;
+}
 
-abbrev pub taken_at : ℕ → ℕ → WorldState → WorldState
-taken_at count place w = taken_if (server_at place w.servers).running place count (server_at place w.servers) w
+abbrev pub fed_at : ℕ → ℕ → WorldState → Step
+fed_at count place w =
+    let server = server_at place w.servers in fed_if server.running place (next_of count w.source server) server w
 
-abbrev pub stopped_at : ℕ → WorldState → WorldState
-stopped_at place w = with_server place (stopped (server_at place w.servers)) w
+abbrev pub taken_at : ℕ → ℕ → WorldState → Step
+taken_at count place w = let server = server_at place w.servers in taken_if server.running place count server w
+
+abbrev pub stopped_at : ℕ → WorldState → Step
+stopped_at place w = record (rest w) { servers = slice_set w.servers place (stopped (server_at place w.servers)) }
 
 -- a new life of the server, and new joints for its items
-abbrev pub started_at : ℕ → WorldState → WorldState
-started_at place w = record (with_server place (started w.source (server_at place w.servers)) w) {
-  log = reopened (place + 1) (length w.log.lasts) w.log;
+abbrev pub started_at : ℕ → WorldState → Step
+started_at place w = let server = server_at place w.servers in record (rest w) {
+  servers = slice_set w.servers place (started w.source server);
+  acts = reopening (place + 1);
+  lives = Begins (place + 1) (next_boot server.boot) (values_of w.source server) ∷ [];
 }
 
-abbrev pub at_place : Option ℕ → (ℕ → WorldState → WorldState) → WorldState → WorldState
-at_place None act w = w
+abbrev pub at_place : Option ℕ → (ℕ → WorldState → Step) → WorldState → Step
+at_place None act w = rest w
 at_place (Some place) act w = act place w
 
 -- what a line does to the server that it names; there is none of another number
-abbrev pub at_server : ℕ → (ℕ → WorldState → WorldState) → WorldState → WorldState
+abbrev pub at_server : ℕ → (ℕ → WorldState → Step) → WorldState → Step
 at_server number act w = at_place (place_in number (length w.servers)) act w
 
--- what a line does
-abbrev pub after : Line → WorldState → WorldState
-after (line.Change change) w = record w { source = appended change w.source }
-after (line.Feed server count) w = at_server server (fed_at count) w
-after (line.Take server count) w = at_server server (taken_at count) w
-after (line.Stop server) w = at_server server stopped_at w
-after (line.Start server) w = at_server server started_at w
-after (line.Set mode servers) w = w
-after (line.Items items queue) w = w
-after (line.Listen item) w = w
-after (line.Unlisten id) w = w
-after line.End w = w
+-- the step of a line
+abbrev pub step_of : Line → WorldState → Step
+step_of (line.Change change) w = record (rest w) { source = appended change w.source }
+step_of (line.Feed server count) w = at_server server (fed_at count) w
+step_of (line.Take server count) w = at_server server (taken_at count) w
+step_of (line.Stop server) w = at_server server stopped_at w
+step_of (line.Start server) w = at_server server started_at w
+step_of (line.Set mode servers) w = rest w
+step_of (line.Items items queue oldest) w = rest w
+step_of (line.Listen item) w = rest w
+step_of (line.Unlisten id) w = rest w
+step_of line.End w = rest w
 
--- the world of so many servers and items, with queues of this size, when the set begins
-abbrev pub new_world : ℕ → ℕ → ℕ → WorldState
-new_world servers items size = record {
+-- the world after a step: the log is what the acts make of it
+abbrev pub after_step : Step → WorldState → WorldState
+after_step step w = record w { source = step.source; servers = step.servers; log = after_acts step.acts w.log }
+
+-- the world after a line
+abbrev pub after : Line → WorldState → WorldState
+after line w = after_step (step_of line w) w
+
+-- the world of so many servers and items, with queues of this rule and size, when the set begins
+abbrev pub new_world : ℕ → ℕ → Bool → ℕ → WorldState
+new_world servers items oldest size = record {
   source = [];
-  servers = replicate servers (new_server items size);
+  servers = replicate servers (new_server items oldest size);
   log = new_log servers items;
   failed = false;
 }
@@ -88,3 +114,7 @@ new_world servers items size = record {
 abbrev pub after_all : List Line → WorldState → WorldState
 after_all [] w = w
 after_all (line ∷ lines) w = after_all lines (after line w)
+
+-- what these lines make of a world of so many servers and items, with queues of this rule and size
+abbrev pub world_of : ℕ → ℕ → Bool → ℕ → List Line → WorldState
+world_of servers items oldest size lines = after_all lines (new_world servers items oldest size)

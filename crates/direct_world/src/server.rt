@@ -1,7 +1,9 @@
 ghost use Rattle.std.specs.Prelude.{◌≡◌, ℕ, ◌+◌, ◌-◌, ◌^◌, ◌<◌, ◌≤◌, [], Some, None, length, take, drop, max, OnOk, OnErr, IfOk, IfSome};
 ghost use Rattle.item_queue.specs.Queue.{without_oldest};
 ghost use Rattle.delivery_log.specs.Log.{Covers};
-ghost use Rattle.direct_world.specs.Server.{place_in, pushed_at, new_server, pushed_all, fed, stopped, opened, opened_from, started, arrived, entered_all, log_after, left_after};
+ghost use Rattle.direct_world.specs.Acts.{after_acts, entering, taking, taking_place};
+ghost use Rattle.direct_world.specs.Server.{place_in, pushed_at, new_server, next_of, pushed_all, fed, stopped, opened, opened_all, values_of, started, arrived, left_after, taken_place};
+ghost use Rattle.direct_world.specs.Lives.{values_from};
 
 use delivery_log::Log;
 use item_queue::{Entry, ItemQueue};
@@ -76,32 +78,33 @@ fn arrived(entry: Entry) -> Arrived
     ensures { result ≡ arrived entry }
 {
     Arrived {
-        time: Some(entry.change.time),
+        time: Some(entry.change.stamp()),
         value: Seen::Whole(entry.change.value),
         status: if entry.marked { OVERFLOW_BITS } else { 0 },
     }
 }
 
-/// Enters these entries of a server and item in the client's log.
-fn enter_all(
+/// Moves the oldest entry of a queue, if there is one, into the client's log.
+fn take_entry(
     alloc: Global,
+    queue: &mut ItemQueue,
     log: &mut Log,
     server: u8,
     item: u8,
-    entries: &[Entry],
 ) -> Result<(), OutOfMemory>
     requires { Covers server item log.old }
-    ensures ok { OnOk result (log.new ≡ entered_all server item entries.now log.old) }
+    ensures queue { OnOk result (queue.new ≡ without_oldest 1 queue.old) }
+    ensures log { OnOk result (log.new ≡ after_acts (entering server item (take 1 queue.old.entries)) log.old) }
     ensures items { length log.new.lasts ≡ length log.old.lasts }
     ensures servers { length log.new.joints ≡ length log.old.joints }
 {
-    for entry in entries {
-        log.enter(alloc, server, item, &arrived(*entry))?;
+    match queue.take_one() {
+        Some(entry) => log.enter(alloc, server, item, &arrived(entry)),
+        None => Ok(()),
     }
-    Ok(())
 }
 
-/// Moves up to so many oldest entries of a queue into the client's log.
+/// Moves up to so many oldest entries of a queue into the client's log. An empty queue costs a comparison.
 fn take_item(
     alloc: Global,
     queue: &mut ItemQueue,
@@ -112,13 +115,43 @@ fn take_item(
 ) -> Result<(), OutOfMemory>
     requires { Covers server item log.old }
     ensures queue { OnOk result (queue.new ≡ without_oldest count queue.old) }
-    ensures log { OnOk result (log.new ≡ entered_all server item (take count queue.old.entries) log.old) }
+    ensures log { OnOk result (log.new ≡ after_acts (entering server item (take count queue.old.entries)) log.old) }
     ensures items { length log.new.lasts ≡ length log.old.lasts }
     ensures servers { length log.new.joints ≡ length log.old.joints }
 {
-    let mut entries = Vec::new(alloc);
-    queue.take(count, &mut entries)?;
-    enter_all(alloc, log, server, item, entries.as_slice())
+    for _entry in 0..count.min(queue.len()) {
+        take_entry(alloc, queue, log, server, item)?;
+    }
+    Ok(())
+}
+
+/// Moves up to so many oldest entries of the queue of a place, from 0 on, into the client's log.
+fn take_place(
+    alloc: Global,
+    queues: &mut [ItemQueue],
+    log: &mut Log,
+    server: u8,
+    place: usize,
+    count: usize,
+) -> Result<(), OutOfMemory>
+    requires place { place < length queues.old }
+    requires server { (1 ≤ server) × (server ≤ length log.old.joints) }
+    requires items { length queues.old ≤ length log.old.lasts }
+    requires few { length log.old.lasts < 2 ^ 8 }
+    ensures queues { OnOk result (queues.new ≡ taken_place place count queues.old) }
+    ensures log { OnOk result (log.new ≡ after_acts (taking_place server place count queues.old) log.old) }
+    ensures width { length queues.new ≡ length queues.old }
+    ensures items { length log.new.lasts ≡ length log.old.lasts }
+    ensures servers { length log.new.joints ≡ length log.old.joints }
+{
+    take_item(
+        alloc,
+        &mut queues[place],
+        log,
+        server,
+        (place + 1) as u8,
+        count,
+    )
 }
 
 /// Moves up to so many oldest entries of each queue into the client's log, item 1 first.
@@ -133,19 +166,12 @@ fn take_all(
     requires items { length queues.old ≤ length log.old.lasts }
     requires few { length log.old.lasts < 2 ^ 8 }
     ensures queues { OnOk result (queues.new ≡ left_after count queues.old) }
-    ensures log { OnOk result (log.new ≡ log_after server 1 count queues.old log.old) }
+    ensures log { OnOk result (log.new ≡ after_acts (taking server 1 count queues.old) log.old) }
     ensures items { length log.new.lasts ≡ length log.old.lasts }
     ensures servers { length log.new.joints ≡ length log.old.joints }
 {
     for place in 0..queues.len() {
-        take_item(
-            alloc,
-            &mut queues[place],
-            log,
-            server,
-            (place + 1) as u8,
-            count,
-        )?;
+        take_place(alloc, queues, log, server, place, count)?;
     }
     Ok(())
 }
@@ -163,7 +189,7 @@ fn open(queue: &mut ItemQueue, current: Option<Change>)
 /// Begins a new stream of each item.
 fn open_all(queues: &mut [ItemQueue], source: &SourceLog)
     requires { length queues.old < 2 ^ 8 }
-    ensures { queues.new ≡ opened_from 1 source.now queues.old }
+    ensures { queues.new ≡ opened_all (values_from 1 (length queues.old) source.now) queues.old }
 {
     for place in 0..queues.len() {
         let current = source.last_of((place + 1) as u8);
@@ -173,15 +199,20 @@ fn open_all(queues: &mut [ItemQueue], source: &SourceLog)
 
 impl Server {
     /// A server that runs from the beginning of the set.
-    pub(crate) fn new(alloc: Global, items: u8, size: u32) -> Result<Server, OutOfMemory>
+    pub(crate) fn new(
+        alloc: Global,
+        items: u8,
+        size: u32,
+        oldest: bool,
+    ) -> Result<Server, OutOfMemory>
         requires least { 1 ≤ size }
         requires most { size ≤ 1000 }
-        ensures made { IfOk result (λ s. s ≡ new_server items size) }
+        ensures made { IfOk result (λ s. s ≡ new_server items oldest size) }
         ensures width { IfOk result (λ s. length s.queues ≡ items) }
     {
         let mut queues = Vec::new(alloc);
         for _item in 0..items {
-            queues.push(ItemQueue::new(alloc, size)?)?;
+            queues.push(ItemQueue::new(alloc, size, oldest)?)?;
         }
         Ok(Server {
             boot: 1,
@@ -191,16 +222,14 @@ impl Server {
         })
     }
 
-    /// Gives the server, if it runs, the next changes of the source, up to so many.
+    /// Gives the server the next changes of the source, up to so many.
     pub(crate) fn feed(&mut self, source: &SourceLog, count: u32)
-        ensures fed { self.new ≡ fed count source.now self.old }
+        ensures fed { self.new ≡ fed (next_of count source.now self.old) self.old }
         ensures width { length self.new.queues ≡ length self.old.queues }
     {
-        if self.running {
-            let next = next_changes(source.changes(), self.position, count as usize);
-            push_all(self.queues.as_mut_slice(), next);
-            self.position += next.len();
-        }
+        let next = next_changes(source.changes(), self.position, count as usize);
+        push_all(self.queues.as_mut_slice(), next);
+        self.position += next.len();
     }
 
     pub(crate) fn stop(&mut self)
@@ -234,7 +263,7 @@ impl Server {
         requires items { length self.old.queues ≤ length log.old.lasts }
         requires few { length log.old.lasts < 2 ^ 8 }
         ensures server { OnOk result (self.new ≡ record self.old { queues = left_after count self.old.queues }) }
-        ensures log { OnOk result (log.new ≡ log_after number 1 count self.old.queues log.old) }
+        ensures log { OnOk result (log.new ≡ after_acts (taking number 1 count self.old.queues) log.old) }
         ensures width { length self.new.queues ≡ length self.old.queues }
         ensures items { length log.new.lasts ≡ length log.old.lasts }
         ensures servers { length log.new.joints ≡ length log.old.joints }

@@ -1,11 +1,13 @@
 ghost use Rattle.std.specs.Prelude.{◌≡◌, ◌^◌, ◌<◌, ◌≤◌, length, replicate, true, false, OnOk, OnErr, IfOk, IfSome, IsErr, IsTrue, Some};
+ghost use Rattle.delivery_log.specs.Log.{CoversServer};
+ghost use Rattle.direct_world.specs.Acts.{after_acts, reopening};
 ghost use Rattle.direct_world.specs.Server.{place_in, new_server};
-ghost use Rattle.direct_world.specs.World.{after, appended, fed_at, new_world, reopened, server_at, started_at, stopped_at, taken_at, at_server};
+ghost use Rattle.direct_world.specs.World.{after, after_step, appended, fed_at, new_world, server_at, started_at, stopped_at, taken_at};
 
 use crate::server::{Server, place_in};
-use delivery_log::{Joint, Log};
+use delivery_log::{Joint, Log, Turn};
 use scenario::Line;
-use set_model::{Change, GapCause, LogLine, SourceFault, SourceLog};
+use set_model::{Change, GapCause, LogLine, MOST_PICO, SourceFault, SourceLog};
 use std::alloc::Global;
 use std::marker::Model;
 use ua_base::OutOfMemory;
@@ -30,40 +32,47 @@ impl Model for World {
     ghost invariant = { λ w. IsShaped w.servers.items w.log };
 }
 
-/// Appends a change, unless the source refuses it.
+/// Appends a change, unless it can't be one of the source.
 fn append(source: &mut SourceLog, change: Change) -> Result<(), OutOfMemory>
     ensures { OnOk result (source.new ≡ appended change source.old) }
 {
+    if change.pico > MOST_PICO {
+        return Ok(());
+    }
     match source.append(change) {
         Err(SourceFault::OutOfMemory) => Err(OutOfMemory),
         _ => Ok(()),
     }
 }
 
-/// Makes the joints of a server's first items those of a new life.
-fn reopen(log: &mut Log, server: u8, items: usize)
-    requires server { (1 ≤ server) × (server ≤ length log.old.joints) }
-    requires items { items ≤ length log.old.lasts }
-    requires few { length log.old.lasts < 2 ^ 8 }
-    ensures log { log.new ≡ reopened server items log.old }
+/// Makes the joints of a server's items those of a new life.
+fn reopen(log: &mut Log, server: u8)
+    requires { CoversServer server log.old }
+    ensures log { log.new ≡ after_acts (reopening server) log.old }
     ensures items { length log.new.lasts ≡ length log.old.lasts }
     ensures servers { length log.new.joints ≡ length log.old.joints }
 {
-    for place in 0..items {
-        log.set_joint(server, (place + 1) as u8, Joint::Open(GapCause::Late));
-    }
+    log.turn_all(server, Turn::Become(Joint::Open(GapCause::Late)));
 }
 
 impl World {
-    /// The world when the set begins: every server runs its first life, and nothing changed yet.
-    pub fn new(alloc: Global, servers: u8, items: u8, queue: u32) -> Result<World, OutOfMemory>
+    /// The world when the set begins: every server runs its first life, and nothing changed yet. The queue of an item
+    /// holds `queue` entries, from 1 to 1,000. A full one discards its oldest entry or, with `oldest` false, its newest
+    /// (OPC 10000-4, 5.12.1.5).
+    pub fn new(
+        alloc: Global,
+        servers: u8,
+        items: u8,
+        queue: u32,
+        oldest: bool,
+    ) -> Result<World, OutOfMemory>
         requires least { 1 ≤ queue }
         requires most { queue ≤ 1000 }
-        ensures { IfOk result (λ world. world ≡ new_world servers items queue) }
+        ensures { IfOk result (λ world. world ≡ new_world servers items oldest queue) }
     {
         Ok(World {
             source: SourceLog::new(alloc),
-            servers: new_servers(alloc, servers, items, queue)?,
+            servers: new_servers(alloc, servers, items, queue, oldest)?,
             log: Log::new(alloc, servers, items)?,
             failed: false,
         })
@@ -98,14 +107,16 @@ impl World {
 
     fn feed(&mut self, place: usize, count: u32)
         requires { place < length self.old.servers }
-        ensures { self.new ≡ fed_at count place self.old }
+        ensures { self.new ≡ after_step (fed_at count place self.old) self.old }
     {
-        self.servers[place].feed(&self.source, count);
+        if self.servers[place].is_running() {
+            self.servers[place].feed(&self.source, count);
+        }
     }
 
     fn take(&mut self, alloc: Global, place: usize, count: u32) -> Result<(), OutOfMemory>
         requires { place < length self.old.servers }
-        ensures { OnOk result (self.new ≡ taken_at count place self.old) }
+        ensures { OnOk result (self.new ≡ after_step (taken_at count place self.old) self.old) }
     {
         if self.servers[place].is_running() {
             self.servers[place].take(alloc, &mut self.log, (place + 1) as u8, count)?;
@@ -115,18 +126,17 @@ impl World {
 
     fn stop(&mut self, place: usize)
         requires { place < length self.old.servers }
-        ensures { self.new ≡ stopped_at place self.old }
+        ensures { self.new ≡ after_step (stopped_at place self.old) self.old }
     {
         self.servers[place].stop();
     }
 
     fn start(&mut self, place: usize)
         requires { place < length self.old.servers }
-        ensures { self.new ≡ started_at place self.old }
+        ensures { self.new ≡ after_step (started_at place self.old) self.old }
     {
         self.servers[place].start(&self.source);
-        let items = self.log.items();
-        reopen(&mut self.log, (place + 1) as u8, items);
+        reopen(&mut self.log, (place + 1) as u8);
     }
 
     /// What the line does to the world.
@@ -189,14 +199,15 @@ fn new_servers(
     servers: u8,
     items: u8,
     queue: u32,
+    oldest: bool,
 ) -> Result<Vec<Server>, OutOfMemory>
     requires least { 1 ≤ queue }
     requires most { queue ≤ 1000 }
-    ensures { IfOk result (λ made. made.items ≡ replicate servers (new_server items queue)) }
+    ensures { IfOk result (λ made. made.items ≡ replicate servers (new_server items oldest queue)) }
 {
     let mut made = Vec::new(alloc);
     for _server in 0..servers {
-        made.push(Server::new(alloc, items, queue)?)?;
+        made.push(Server::new(alloc, items, queue, oldest)?)?;
     }
     Ok(made)
 }

@@ -8,4 +8,4 @@ pub returns-clause-lines : goal.returns-clause-lines
 returns-clause-lines c = world_lines
 
 pub returns-clause-fed : goal.returns-clause-fed
-returns-clause-fed c = λ n m size ls two. (world_fed n m size ls two).well
+returns-clause-fed c = λ n m oldest size ls two. (world_fed n m oldest size ls two).well

@@ -1,4 +1,4 @@
-use Rattle.direct_world.proofs.Boots.{world_boots}
+use Rattle.direct_world.proofs.Lived.{world_boots}
 use Rattle.direct_world.proofs.laws.starts_give_boot_numbers.Goals as goal
 
 pub returns : goal.returns
