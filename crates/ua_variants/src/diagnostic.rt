@@ -1,9 +1,8 @@
 //! DiagnosticInfo: read and dropped.
 
-ghost use Rattle.std.specs.Prelude.{◌≡◌, ◌<◌, None};
+ghost use Rattle.std.specs.Prelude.{◌≡◌, ◌<◌};
 ghost use Rattle.ua_base.specs.Status.{bad_encoding_limits_exceeded};
-ghost use Rattle.ua_values.specs.Reading.{Moves, number_at};
-ghost use Rattle.ua_values.specs.Readers.{optional_at, text_at, array_at};
+ghost use Rattle.ua_values.specs.Reading.{Moves};
 ghost use Rattle.ua_variants.specs.Reader.{details_at, diagnostic_by_at, diagnostic_at};
 ghost use Rattle.ua_values.specs.declared.fault.ValueFault.TheVariants as faults;
 
