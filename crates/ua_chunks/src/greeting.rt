@@ -1,5 +1,5 @@
 ghost use Rattle.std.specs.Prelude.{◌≡◌, ◌≤◌, ◌++◌, length, IfOk, IfSome, OnErr, OnOk};
-ghost use Rattle.ua_values.specs.Reading.{Gives, Moves, input};
+ghost use Rattle.ua_values.specs.Reading.{Gives, Moves, TakesNoMemory, input};
 ghost use Rattle.ua_chunks.specs.Bodies.{Ends, IsWhole, error, error_at, greeting, greeting_at, hello};
 ghost use Rattle.ua_chunks.specs.Bodies.{hello_at, value_of, whole_at, written_error, written_greeting};
 ghost use Rattle.ua_chunks.specs.Bodies.{written_hello};
@@ -32,7 +32,8 @@ pub struct Greeting {
 
 /// Whether nothing is left: else the first byte that is left over is a fault.
 fn end(from: &mut Cursor<'_>) -> Result<(), ValueFault>
-    ensures { Ends result from.old }
+    ensures ends { Ends result from.old }
+    ensures memory { TakesNoMemory result }
 {
     let place = from.place();
     match from.byte() {
@@ -46,7 +47,8 @@ fn end(from: &mut Cursor<'_>) -> Result<(), ValueFault>
 }
 
 fn take_greeting(from: &mut Cursor<'_>) -> Result<Greeting, ValueFault>
-    ensures { Moves (λ g. g) result from.new (greeting_at from.old) }
+    ensures greeting { Moves (λ g. g) result from.new (greeting_at from.old) }
+    ensures memory { TakesNoMemory result }
 {
     let version = from.uint32()?;
     let receive = from.uint32()?;
@@ -88,7 +90,8 @@ fn whole_hello(alloc: Global, body: &[u8]) -> Result<(Greeting, UaText), ValueFa
 }
 
 fn whole_ack(body: &[u8]) -> Result<Greeting, ValueFault>
-    ensures { Gives result (value_of (whole_at greeting_at (input 0 body.now))) }
+    ensures exact { Gives result (value_of (whole_at greeting_at (input 0 body.now))) }
+    ensures memory { TakesNoMemory result }
 {
     let mut from = Cursor::new(body);
     let greeting = take_greeting(&mut from)?;
@@ -117,14 +120,15 @@ pub fn read_hello(alloc: Global, body: &[u8]) -> Result<(Greeting, UaText), Valu
     whole_hello(alloc, body)
 }
 
-/// Reads the whole body of an ACK (OPC 10000-6, 7.1.2.4).
+/// Reads the whole body of an ACK (OPC 10000-6, 7.1.2.4). It takes no memory.
 ///
 /// # Errors
 ///
-/// As `read_hello`.
+/// As `read_hello`, but never want of memory.
 pub fn read_ack(body: &[u8]) -> Result<Greeting, ValueFault>
     ensures exact { Gives result (value_of (whole_at greeting_at (input 0 body.now))) }
     ensures spelled { IsWhole greeting body.now result }
+    ensures memory { TakesNoMemory result }
 {
     whole_ack(body)
 }
