@@ -1,5 +1,5 @@
--- What `show stream` prints of one direction of a stream (OPC 10000-6, 7.1.2.2 and 6.7.2.2): its frames and how much is left,
--- or where its first fault stands.
+-- What `show stream` prints of one direction of a stream (OPC 10000-6, 7.1.2.2 and 6.7.2.2): its frames and how much is
+-- left, or where its first fault stands.
 use Rattle.std.specs.Prelude.{◌≡◌, ℕ, ◌+◌, ◌%◌, ◌^◌, List, ◌++◌, codes, length, Option, Some, None, Result, Ok, Err}
 use Rattle.std.specs.List.{flat_map}
 use Rattle.std.specs.Fmt.{decimal}
@@ -12,7 +12,8 @@ use Rattle.show.specs.declared.fault.ShowFault.{ShowFault}
 use Rattle.show.specs.declared.fault.ShowFault.TheVariants as faults
 use Rattle.show.specs.Answer.{Refusal, refusal, Shows}
 
--- the place of a frame's first byte, its kind, which part of a message it is, and its size with the eight bytes of its header
+-- the place of a frame's first byte, its kind, which part of a message it is, and its size with the eight bytes of its
+-- header
 abbrev pub frame_line : Frame → List ℕ
 frame_line f =
     codes "frame " ++ decimal f.place ++ codes " " ++ letters f.kind ++ codes " " ++ letter f.chunk
@@ -40,6 +41,8 @@ abbrev pub IsFrameFault : FrameFault → ShowFault → Type 0
 IsFrameFault (frames.Bad place code) fault = fault ≡ faults.Bad place code
 IsFrameFault frames.OutOfMemory fault = fault ≡ faults.OutOfMemory
 
--- the input is frames that stand one after the other and a rest that begins with no further one, and this is shown of them
+-- the input is frames that stand one after the other and a rest that begins with no further one, and this is shown of
+-- them
 abbrev pub IsShownStream : {X : Type 0} → (X → List ℕ) → List ℕ → Result X ShowFault → Type 0
-IsShownStream view bytes result = (split : Split) × IsFramed 0 bytes split × Shows view result (shown_split (fault_of split.rest) split)
+IsShownStream view bytes result =
+    (split : Split) × IsFramed 0 bytes split × Shows view result (shown_split (fault_of split.rest) split)

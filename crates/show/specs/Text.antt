@@ -1,4 +1,5 @@
--- The text of a DataValue, as `show value` prints it: a line for each field that is there, and one for each element of an array.
+-- The text of a DataValue, as `show value` prints it: a line for each field that is there, and one for each element of
+-- an array.
 use Rattle.std.specs.Prelude.{ℕ, zero, suc, List, [], ◌++◌, codes, length, Bool, if◌then◌else◌, Option, Some, None}
 use Rattle.std.specs.List.{flat_map}
 use Rattle.std.specs.Fmt.{decimal, signed_decimal}
@@ -121,7 +122,8 @@ level_text (Variant-F.Scalar value) = value_line (flat_number (flat_of value)) (
 level_text (Variant-F.DataValue value) = value_line 23 (bytes_text (written_data_value value))
 level_text (Variant-F.Variant value) = value_line 24 (bytes_text (written_variant value))
 level_text Variant-F.DiagnosticInfo = value_line 25 diagnostic_text
-level_text (Variant-F.Array items sizes) = count_line (flat_number (flat_of_array items)) (count_of_array items) ++ array_lines items
+level_text (Variant-F.Array items sizes) =
+    count_line (flat_number (flat_of_array items)) (count_of_array items) ++ array_lines items
 level_text (Variant-F.DataValues items sizes) = count_line 23 (length items) ++ written_lines written_data_value items
 level_text (Variant-F.Variants items sizes) = count_line 24 (length items) ++ written_lines written_variant items
 level_text (Variant-F.DiagnosticInfos count sizes) = count_line 25 count ++ diagnostic_lines count

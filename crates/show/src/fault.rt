@@ -4,8 +4,8 @@ use ua_base::OutOfMemory;
 /// Why nothing is shown.
 #[derive(Clone, Copy, Debug, PartialEq, Eq, Error)]
 pub enum ShowFault {
-    /// The first thing that breaks a rule stands at byte `place` of the input, from 0 on; `code` is the status code that
-    /// says which kind of rule.
+    /// The first thing that breaks a rule stands at byte `place` of the input, from 0 on; `code` is the status code
+    /// that says which kind of rule.
     #[error("byte {place}: {code:08X}")]
     Bad { place: u64, code: u32 },
     /// Memory was refused.

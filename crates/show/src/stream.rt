@@ -70,8 +70,9 @@ fn shown(alloc: Global, bytes: &[u8]) -> Result<Vec<u8>, ShowFault>
 }
 
 /// What `show stream` prints of one direction of a stream (OPC 10000-6, 7.1.2.2): for each frame a line
-/// `frame PLACE KIND CHUNK SIZE`, PLACE being where its first byte stands, from 0 on, KIND its three letters, CHUNK its fourth
-/// one, and SIZE its size with the header; and last `rest N`, how many bytes are left after the last whole frame.
+/// `frame PLACE KIND CHUNK SIZE`, PLACE being where its first byte stands, from 0 on, KIND its three letters, CHUNK its
+/// fourth one, and SIZE its size with the header; and last `rest N`, how many bytes are left after the last whole
+/// frame.
 ///
 /// A header that breaks a rule is a fault at its first byte.
 pub fn show_stream(alloc: Global, bytes: &[u8]) -> Result<Vec<u8>, ShowFault>

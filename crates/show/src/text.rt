@@ -3,7 +3,8 @@
 ghost use Rattle.std.specs.Prelude.{◌≡◌, ◌++◌, List, ℕ, codes, OnOk, IfOk};
 ghost use Rattle.std.specs.String.{string_bytes};
 ghost use Rattle.std.specs.Fmt.{decimal, signed_decimal};
-ghost use Rattle.show.specs.Text.{boolean_text, guid_text, status_text, bytes_text, element_line, element_lines, written_lines};
+ghost use Rattle.show.specs.Text.{boolean_text, bytes_text, element_line, element_lines, guid_text, status_text};
+ghost use Rattle.show.specs.Text.{written_lines};
 
 use std::alloc::{AllocError, Global};
 use ua_base::OutOfMemory;

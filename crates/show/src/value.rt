@@ -2,14 +2,15 @@
 
 ghost use Rattle.std.specs.Prelude.{◌≡◌, ◌++◌, codes, length, Ok, OnOk, IfOk};
 ghost use Rattle.std.specs.Fmt.{decimal};
-ghost use Rattle.ua_base.specs.declared.status.TheConstants.{BAD_DECODING_ERROR};
+ghost use Rattle.ua_base.specs.Status.{bad_decoding_error};
 ghost use Rattle.ua_variants.specs.declared.variant.Variant.{Variant};
 ghost use Rattle.ua_variants.specs.declared.variant.Stamped.{Stamped};
 ghost use Rattle.ua_variants.specs.Kinds.{flat_number};
 ghost use Rattle.ua_variants.specs.Grammar.{count_of_array, data_value};
 ghost use Rattle.ua_variants.specs.Spelling.{flat_of, flat_of_array};
 ghost use Rattle.show.specs.declared.fault.ShowFault.TheVariants as faults;
-ghost use Rattle.show.specs.Text.{status_text, bytes_text, scalar_text, value_line, count_line, written_lines, array_lines, diagnostic_lines, variant_text, some_text, field_line, value_text};
+ghost use Rattle.show.specs.Text.{array_lines, bytes_text, count_line, diagnostic_lines, field_line, scalar_text};
+ghost use Rattle.show.specs.Text.{some_text, status_text, value_line, value_text, variant_text, written_lines};
 ghost use Rattle.show.specs.Answer.{Shows};
 ghost use Rattle.show.specs.Value.{IsFaultOf, shown_of, shown_value, IsShown};
 
@@ -111,7 +112,8 @@ fn put_null(to: &mut Vec<u8>) -> Result<(), OutOfMemory>
 }
 
 fn put_scalar_line(value: &Scalar, to: &mut Vec<u8>) -> Result<(), OutOfMemory>
-    ensures { OnOk result (to.new.items ≡ to.old.items ++ value_line (flat_number (flat_of value.now)) (scalar_text value.now)) }
+    ensures { OnOk result (to.new.items
+        ≡ to.old.items ++ value_line (flat_number (flat_of value.now)) (scalar_text value.now)) }
 {
     begin_value(value.flat().number(), to)?;
     put_scalar(value, to)?;
@@ -127,7 +129,8 @@ fn put_written_value<T: Element>(number: u8, value: &T, to: &mut Vec<u8>) -> Res
 }
 
 fn put_array_lines(items: &Array, to: &mut Vec<u8>) -> Result<(), OutOfMemory>
-    ensures { OnOk result (to.new.items ≡ to.old.items ++ (count_line (flat_number (flat_of_array items.now)) (count_of_array items.now) ++ array_lines items.now)) }
+    ensures { OnOk result (to.new.items ≡ to.old.items
+        ++ (count_line (flat_number (flat_of_array items.now)) (count_of_array items.now) ++ array_lines items.now)) }
 {
     put_count(items.flat().number(), items.len(), to)?;
     put_array(items, to)
@@ -138,7 +141,8 @@ fn put_written_array<T: Element>(
     items: &[T],
     to: &mut Vec<u8>,
 ) -> Result<(), OutOfMemory>
-    ensures { OnOk result (to.new.items ≡ to.old.items ++ (count_line number (length items.now) ++ written_lines T.written items.now)) }
+    ensures { OnOk result (to.new.items
+        ≡ to.old.items ++ (count_line number (length items.now) ++ written_lines T.written items.now)) }
 {
     put_count(number, items.len(), to)?;
     put_written_lines(items, to)
@@ -235,7 +239,7 @@ fn text_of(alloc: Global, value: &DataValue) -> Result<Vec<u8>, OutOfMemory>
 
 /// Bytes that are left over, or are not there, where a value ends.
 fn refused(place: usize) -> ShowFault
-    ensures { result ≡ faults.Bad place BAD_DECODING_ERROR }
+    ensures { result ≡ faults.Bad place bad_decoding_error }
 {
     ShowFault::Bad {
         place: place as u64,
@@ -283,17 +287,18 @@ fn shown(alloc: Global, bytes: &[u8]) -> Result<Vec<u8>, ShowFault>
     }
 }
 
-/// What `show value` prints of one DataValue (OPC 10000-6, 5.2.2.17) with nothing after it: for each field that is there
-/// a line `value TYPE TEXT`, `status XXXXXXXX`, `source N`, `sourcepico N`, `server N` or `serverpico N`, in this order.
-/// An array is `value TYPE[n]` and a line for each element. TYPE is the number of the built-in type (OPC 10000-6, 5.1.2).
-/// Numbers and times are decimal, status codes hexadecimal, a Guid has its hyphenated form, and of any other value the bytes
-/// that are written are shown in hexadecimal behind an `x`.
+/// What `show value` prints of one DataValue (OPC 10000-6, 5.2.2.17) with nothing after it: for each field that is
+/// there a line `value TYPE TEXT`, `status XXXXXXXX`, `source N`, `sourcepico N`, `server N` or `serverpico N`, in this
+/// order. An array is `value TYPE[n]` and a line for each element. TYPE is the number of the built-in type
+/// (OPC 10000-6, 5.1.2). Numbers and times are decimal, status codes hexadecimal, a Guid has its hyphenated form, and
+/// of any other value the bytes that are written are shown in hexadecimal behind an `x`.
 ///
 /// Input that ends early is a fault at its length, and bytes left over are one at the first of them.
 pub fn show_value(alloc: Global, bytes: &[u8]) -> Result<Vec<u8>, ShowFault>
     ensures exact { Shows (λ text. text.items) result (shown_value bytes.now) }
     ensures spelled { IsShown (λ text. text.items) bytes.now result }
-    ensures complete { (d : Stamped Variant) → data_value 101 d bytes.now → Shows (λ text. text.items) result (Ok (value_text d)) }
+    ensures complete { (d : Stamped Variant) → data_value 101 d bytes.now
+        → Shows (λ text. text.items) result (Ok (value_text d)) }
 {
     shown(alloc, bytes)
 }

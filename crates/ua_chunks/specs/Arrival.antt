@@ -14,7 +14,8 @@ use Rattle.ua_chunks.specs.Sending.{MayPut, Part, Sending, after_put, limit_of, 
 abbrev pub placed : ℕ → List Part → List Frame
 placed place [] = []
 placed place (p ∷ parts) =
-    record { place = place; kind = p.kind; chunk = p.chunk; body = p.body } ∷ placed (moved place (8 + length p.body)) parts
+    record { place = place; kind = p.kind; chunk = p.chunk; body = p.body }
+    ∷ placed (moved place (8 + length p.body)) parts
 
 -- ---- a list of messages put
 
@@ -40,7 +41,8 @@ abbrev pub frames_put : ℕ → List Put → Sending → List Frame
 frames_put place [] s = []
 frames_put place (m ∷ messages) s =
     placed place (parts_of m.kind m.request m.body s)
-    ++ frames_put (moved place (length (put_bytes m.kind m.request m.body s))) messages (after_put m.kind m.request m.body s)
+    ++ frames_put (moved place (length (put_bytes m.kind m.request m.body s))) messages
+    (after_put m.kind m.request m.body s)
 
 -- a message that is taken, and not refused as too large
 pub record IsPut (m : Put) (s : Sending) : Type 0 where
@@ -65,7 +67,8 @@ pub record InStep (s : Sending) (a : Assembly) : Type 0 where
   pub fault : a.fault ≡ None
 
 -- a front of the bytes put has no fault, and gives a front of the frames and of the messages
-pub record BeginsWith (front : List ℕ) (frames : List Frame) (messages : List Message) (f : Framing) (a : Assembly) : Type 0 where
+pub record BeginsWith (front : List ℕ) (frames : List Frame) (messages : List Message) (f : Framing) (a : Assembly) :
+    Type 0 where
   pub framing : fault_of (after_feed front f).held ≡ None
   pub later_frames : List Frame
   pub frames_are : frames ≡ frames_of front f ++ later_frames
@@ -75,4 +78,10 @@ pub record BeginsWith (front : List ℕ) (frames : List Frame) (messages : List 
 
 -- what is read of an OPN put
 abbrev pub opn_put : ℕ → List ℕ → Sending → OpnChunk
-opn_put request body s = record { channel = s.channel; policy = Some none_policy; number = s.next; request = request; body = body }
+opn_put request body s = record {
+  channel = s.channel;
+  policy = Some none_policy;
+  number = s.next;
+  request = request;
+  body = body;
+}

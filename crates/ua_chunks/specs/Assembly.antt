@@ -24,8 +24,16 @@ pub record Assembly : Type 0 where
   pub fault : Option MessageFault
 
 abbrev pub new_assembly : ℕ → ℕ → Assembly
-new_assembly channel token =
-    record { channel = channel; token = token; former = None; last = None; chunks = 0; request = 0; body = []; fault = None }
+new_assembly channel token = record {
+  channel = channel;
+  token = token;
+  former = None;
+  last = None;
+  chunks = 0;
+  request = 0;
+  body = [];
+  fault = None;
+}
 
 -- later chunks must have these; the token of a channel that stays is taken on
 abbrev pub renewed : ℕ → ℕ → Assembly → Assembly

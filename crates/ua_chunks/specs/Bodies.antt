@@ -1,4 +1,5 @@
--- What stands in the frames HEL, ACK, ERR and OPN (OPC 10000-6, 7.1.2.3 to 7.1.2.5, and 6.7.2.3), each field a part of a spelling.
+-- What stands in the frames HEL, ACK, ERR and OPN (OPC 10000-6, 7.1.2.3 to 7.1.2.5, and 6.7.2.3), each field a part of
+-- a spelling.
 use Rattle.std.specs.Prelude.{◌≡◌, ◌≤◌, ◌<◌, ℕ, ◌^◌, List, [], ◌∷◌, ◌++◌, length, drop, take, Option, None, Result, Ok, Err, ◌⊎◌}
 use Rattle.byteorder.specs.Endian.{little_bytes}
 use Rattle.ua_base.specs.Status.{bad_decoding_error}
@@ -52,7 +53,8 @@ with_certificates certificate thumbprint c = record {
 -- the certificates are dropped
 abbrev pub opn : OpnChunk → List ℕ → Type 0
 opn c bytes =
-    (certificate thumbprint : Option (List ℕ)) × (opn_head (with_certificates certificate thumbprint c) followed_by exactly c.body) bytes
+    (certificate thumbprint : Option (List ℕ))
+    × (opn_head (with_certificates certificate thumbprint c) followed_by exactly c.body) bytes
 
 -- ---- read field by field
 
@@ -124,7 +126,13 @@ pub record IsLeftOf (bytes : List ℕ) (from : Input) : Type 0 where
 
 -- what is left is the body
 abbrev pub opn_of : Result (OpnHead × Input) Fault → Result OpnChunk Fault
-opn_of (Ok x) = Ok (record { channel = x.0.channel; policy = x.0.policy; number = x.0.number; request = x.0.request; body = x.1.rest })
+opn_of (Ok x) = Ok (record {
+  channel = x.0.channel;
+  policy = x.0.policy;
+  number = x.0.number;
+  request = x.0.request;
+  body = x.1.rest;
+})
 opn_of (Err f) = Err f
 
 -- ---- what a read answers, in the words of the fields alone
@@ -140,7 +148,8 @@ pub record IsLeftOver {A : Type 0} (spells : A → List ℕ → Type 0) (bytes :
 abbrev pub IsWhole : {A : Type 0} → (A → List ℕ → Type 0) → List ℕ → Result A ValueFault → Type 0
 IsWhole spells bytes (Ok a) = spells a bytes
 IsWhole spells bytes (Err faults.Short) = EndsEarly spells (Begun spells) bytes
-IsWhole spells bytes (Err (faults.Bad place code)) = IsFault spells (Begun spells) bytes place code ⊎ IsLeftOver spells bytes place code
+IsWhole spells bytes (Err (faults.Bad place code)) =
+    IsFault spells (Begun spells) bytes place code ⊎ IsLeftOver spells bytes place code
 IsWhole spells bytes (Err faults.OutOfMemory) = Unit {0}
 
 pub record IsFront {A : Type 0} (spells : A → List ℕ → Type 0) (bytes : List ℕ) (a : A) : Type 0 where

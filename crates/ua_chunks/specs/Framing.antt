@@ -57,7 +57,8 @@ GainsFront frames before after = (lost : List Frame) × Gains frames before afte
 -- what a call answers of a framer that was `old`, with the list of frames before and after it
 abbrev pub Feeds : {A : Type 0} → Result A FrameFault → Framing → List ℕ → Framing → List Frame → List Frame → Type 0
 Feeds (Ok u) old bytes new before after =
-    (old.failed ≡ false) × (new ≡ after_feed bytes old) × (fault_of new.held ≡ None) × (after ≡ before ++ frames_of bytes old)
+    (old.failed ≡ false) × (new ≡ after_feed bytes old) × (fault_of new.held ≡ None)
+    × (after ≡ before ++ frames_of bytes old)
 Feeds (Err (faults.Bad place code)) old bytes new before after =
     (old.failed ≡ false) × (new ≡ after_feed bytes old) × (fault_of new.held ≡ Some code) × (new.place ≡ place)
     × (after ≡ before ++ frames_of bytes old)

@@ -35,7 +35,8 @@ new_sending channel token size max_message max_chunks = record {
 
 -- the limits of the other end, where they come later: the numbers go on
 abbrev pub with_limits : ℕ → ℕ → ℕ → Sending → Sending
-with_limits size max_message max_chunks s = record s { size = min size 65536; max_message = max_message; max_chunks = max_chunks }
+with_limits size max_message max_chunks s =
+    record s { size = min size 65536; max_message = max_message; max_chunks = max_chunks }
 
 -- what is so of each sender
 pub record IsSending (s : Sending) : Type 0 where
@@ -75,7 +76,8 @@ stepped s = record s { next = after_chunk s.next }
 
 -- the four numbers in front of a chunk
 abbrev pub written_head : ℕ → Sending → List ℕ
-written_head request s = little_bytes 4 s.channel ++ little_bytes 4 s.token ++ little_bytes 4 s.next ++ little_bytes 4 request
+written_head request s =
+    little_bytes 4 s.channel ++ little_bytes 4 s.token ++ little_bytes 4 s.next ++ little_bytes 4 request
 
 abbrev pub part : Kind → Chunk → ℕ → List ℕ → Sending → Part
 part k c request bytes s = record { kind = k; chunk = c; body = written_head request s ++ bytes }
@@ -85,7 +87,8 @@ abbrev pub parts_up_to : ℕ → Kind → ℕ → List ℕ → Sending → List 
 parts_up_to zero k request bytes s = part k chunk.Final request bytes s ∷ []
 parts_up_to (suc n) k request bytes s =
     if nat_lt (in_chunk s) (length bytes) then
-    part k chunk.Middle request (take (in_chunk s) bytes) s ∷ parts_up_to n k request (drop (in_chunk s) bytes) (stepped s)
+    part k chunk.Middle request (take (in_chunk s) bytes) s
+    ∷ parts_up_to n k request (drop (in_chunk s) bytes) (stepped s)
     else part k chunk.Final request bytes s ∷ []
 
 -- each chunk has a byte at least, if there are several
@@ -97,11 +100,17 @@ abbrev pub none_policy : List ℕ
 none_policy = codes "http://opcfoundation.org/UA/SecurityPolicy#None"
 
 abbrev pub opn_head_of : ℕ → Sending → OpnHead
-opn_head_of request s =
-    record { channel = s.channel; policy = Some none_policy; certificate = None; thumbprint = None; number = s.next; request = request }
+opn_head_of request s = record {
+  channel = s.channel;
+  policy = Some none_policy;
+  certificate = None;
+  thumbprint = None;
+  number = s.next;
+  request = request;
+}
 
 abbrev pub opn_part : ℕ → List ℕ → Sending → Part
-opn_part request bytes s = record { kind = kind.Opn; chunk = chunk.Final; body = written_opn_head (opn_head_of request s) ++ bytes }
+opn_part request bytes s = whole_part kind.Opn (written_opn_head (opn_head_of request s) ++ bytes)
 
 abbrev pub parts_of : Kind → ℕ → List ℕ → Sending → List Part
 parts_of kind.Opn request bytes s = opn_part request bytes s ∷ []
@@ -133,7 +142,8 @@ after_put k request bytes s = after_parts (parts_of k request bytes s) s
 -- what a call answers of a sender that was `old`, with the list of bytes before and after it
 abbrev pub Puts : {A : Type 0} → Result A PutFault → Kind → ℕ → List ℕ → Sending → Sending → List ℕ → List ℕ → Type 0
 Puts (Ok u) k request bytes old new before after =
-    (length bytes ≤ limit_of old) × (new ≡ after_put k request bytes old) × (after ≡ before ++ put_bytes k request bytes old)
+    (length bytes ≤ limit_of old) × (new ≡ after_put k request bytes old)
+    × (after ≡ before ++ put_bytes k request bytes old)
 Puts (Err (faults.TooLarge size limit)) k request bytes old new before after =
     (size ≡ length bytes) × (limit ≡ limit_of old) × (limit < size) × (new ≡ old) × (after ≡ before)
 Puts (Err faults.OutOfMemory) k request bytes old new before after = (new ≡ old) × (after ≡ before)

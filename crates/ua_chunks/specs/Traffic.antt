@@ -19,9 +19,9 @@ use Rattle.ua_chunks.specs.Arrival.{IsPut, Put, message_put, opn_put, placed}
 
 -- ---- what an end does
 
--- it sends a HEL, an ACK, an ERR, an OPN, a MSG or a CLO; it learns the other end's limits; or a channel is renewed: by both
--- ends at once, by the hearing end, which awaits a token and takes the former one still, or by the sending end, which then
--- has what is awaited
+-- it sends a HEL, an ACK, an ERR, an OPN, a MSG or a CLO; it learns the other end's limits; or a channel is renewed: by
+-- both ends at once, by the hearing end, which awaits a token and takes the former one still, or by the sending end,
+-- which then has what is awaited
 pub data Action : Type 0 where
   SendHello : Greeting → Option (List ℕ) → Action
   SendAck : Greeting → Action
@@ -67,7 +67,8 @@ after_actions (x ∷ actions) s = after_actions actions (after_action x s)
 -- ---- which tokens are taken meanwhile, and what may be done
 
 abbrev pub renewed_tokens : ℕ → ℕ → Tokens → Tokens
-renewed_tokens channel token t = record { channel = channel; token = token; former = if channel == t.channel then Some t.token else None }
+renewed_tokens channel token t =
+    record { channel = channel; token = token; former = if channel == t.channel then Some t.token else None }
 
 abbrev pub tokens_after : Action → Sending → Tokens → Tokens
 tokens_after (SendHello g url) s t = t
@@ -89,7 +90,8 @@ IsAllowed (SendMessage m) s t = IsPut m s
 IsAllowed (NewLimits size max_message max_chunks) s t = 8192 ≤ size
 IsAllowed (RenewBoth channel token) s t = (channel < 2 ^ 32) × (token < 2 ^ 32)
 IsAllowed (AwaitToken token) s t = s.token ≡ t.token
-IsAllowed (CatchUp channel token) s t = (channel < 2 ^ 32) × (token < 2 ^ 32) × (channel ≡ t.channel) × (token ≡ t.token)
+IsAllowed (CatchUp channel token) s t =
+    (channel < 2 ^ 32) × (token < 2 ^ 32) × (channel ≡ t.channel) × (token ≡ t.token)
 
 abbrev pub AreAllowed : List Action → Sending → Tokens → Type 0
 AreAllowed [] s t = Unit {0}
@@ -120,7 +122,8 @@ action_events place x s = map Comes (placed place (action_parts x s)) ++ renewal
 abbrev pub events_of : ℕ → List Action → Sending → List Event
 events_of place [] s = []
 events_of place (x ∷ actions) s =
-    action_events place x s ++ events_of (moved place (length (parts_bytes (action_parts x s)))) actions (after_action x s)
+    action_events place x s
+    ++ events_of (moved place (length (parts_bytes (action_parts x s)))) actions (after_action x s)
 
 abbrev pub frames_put_by : ℕ → List Action → Sending → List Frame
 frames_put_by place [] s = []
@@ -175,12 +178,15 @@ said_by kind.Opn f a = said_opn (opn_of (opn_head_at (input 0 f.body))) a
 said_by kind.Msg f a = said_chunk (refusal f.body a) f a
 said_by kind.Clo f a = said_chunk (refusal f.body a) f a
 
+abbrev pub fault_at : ℕ → ℕ → MessageFault
+fault_at place code = record { place = place; code = code }
+
 -- the first fault is heard, and after it nothing
 abbrev pub heard_by : Option MessageFault → Said → ℕ → Assembly → List Heard × Assembly
 heard_by (Some fault) says place a = ([], a)
 heard_by None (Ok x) place a = x
 heard_by None (Err code) place a =
-    (HeardFault (record { place = place; code = code }) ∷ [], record a { fault = Some (record { place = place; code = code }) })
+    (HeardFault (fault_at place code) ∷ [], record a { fault = Some (fault_at place code) })
 
 unfoldable pub hears : Event → Assembly → List Heard × Assembly
 hears (Comes f) a = heard_by a.fault (said_by f.kind f a) f.place a
