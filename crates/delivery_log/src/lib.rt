@@ -4,8 +4,6 @@
 mod client_log;
 mod laws;
 mod rule;
-#[cfg(test)]
-mod tests;
 
 pub use client_log::{Joints, Log};
 pub use laws::{

@@ -4,8 +4,6 @@
 
 mod laws;
 mod queue;
-#[cfg(test)]
-mod tests;
 
 pub use laws::{holds_the_places, keeps_the_places};
 pub use queue::{Entry, ItemQueue};

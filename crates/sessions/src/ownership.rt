@@ -1,6 +1,6 @@
 ghost use Rattle.std.specs.Prelude.{◌≡◌, Some, find, map};
 ghost use Rattle.std.specs.Option.{option_copied};
-ghost use Rattle.sessions.specs.Table.{given_to, may_own, owned_among, owner_among, ownership_of, same_text};
+ghost use Rattle.sessions.specs.Table.{given_to, may_own, owned_among, owner_among, ownership_of};
 
 use crate::session::{Session, session_at};
 use ua_values::UaText;
@@ -58,23 +58,12 @@ pub fn ownership_of(owned: &[Ownership], id: u32) -> Option<&Ownership>
     owned.iter().find(|ownership| ownership.id == id)
 }
 
-/// Whether two texts are one.
-fn same_text(one: &UaText, other: &UaText) -> bool
-    ensures { result ≡ same_text one.now other.now }
-{
-    match (one.bytes(), other.bytes()) {
-        (None, None) => true,
-        (Some(one), Some(other)) => one == other,
-        _ => false,
-    }
-}
-
 /// Whether a subscription of which this is kept may go to this session.
 pub fn may_own(kept: Option<&Ownership>, session: Option<&Session>) -> bool
     ensures { result ≡ may_own (option_copied kept.entry) (option_copied session.entry) }
 {
     match (kept, session) {
-        (Some(ownership), Some(session)) => same_text(&ownership.uri, &session.uri),
+        (Some(ownership), Some(session)) => ownership.uri.equals(&session.uri),
         _ => false,
     }
 }

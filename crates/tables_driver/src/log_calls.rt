@@ -1,13 +1,13 @@
 //! The log of a client, and its rule.
 
-ghost use Rattle.std.specs.Prelude.{◌≡◌, ◌≤◌, length, IfOk};
+ghost use Rattle.std.specs.Prelude.{◌≡◌, ◌≤◌, length, true};
+ghost use Rattle.delivery_log.specs.Log.{Covers, CoversServer};
 
 use crate::stop::Stop;
 use crate::words::{bytes, number, put, put_lines, some_stamp, stamp, truth};
-use delivery_log::{Joint, Log, judge};
+use delivery_log::{Joint, Log, Turn, judge};
 use set_model::{Arrived, GapCause, LogLine, Seen, UaRaw, report_of, write_line};
 use std::alloc::Global;
-use std::marker::Model;
 
 fn cause(word: &str) -> Result<GapCause, Stop> {
     match word {
@@ -27,6 +27,16 @@ fn joint(word: &str) -> Result<Joint, Stop> {
         "joined" => Ok(Joint::Joined),
         "held" => Ok(Joint::Held),
         _ => Ok(Joint::Open(cause(word)?)),
+    }
+}
+
+/// What befalls a joint.
+fn turn(words: &[&str]) -> Result<Turn, Stop> {
+    match words {
+        ["become", after] => Ok(Turn::Become(joint(after)?)),
+        ["loosen", why] => Ok(Turn::Loosen(cause(why)?)),
+        ["confirm"] => Ok(Turn::Confirm),
+        _ => Err(Stop::BadLine),
     }
 }
 
@@ -116,61 +126,90 @@ pub fn answer_judge(alloc: Global, words: [&str; 4], to: &mut String) -> Result<
     put(to, format!(in alloc; "{verdict:?} {after:?}")?.as_str())
 }
 
-/// A log of so many servers and items.
+/// The log of a client.
 #[derive(Drop)]
 pub struct Journal {
     log: Log,
-    servers: u8,
-    items: u8,
 }
 
-impl Model for Journal {
-    ghost use Rattle.std.specs.Prelude.{◌≡◌, length};
-    ghost use Rattle.delivery_log.specs.State.{LogState};
+/// Whether a log is one of this server and item.
+fn is_within(log: &Log, server: u8, item: u8) -> bool
+    ensures { result ≡ true → Covers server item log.now }
+{
+    0 < server
+        && usize::from(server) <= log.servers()
+        && 0 < item
+        && usize::from(item) <= log.items()
+}
 
-    ghost Value = { LogState };
+/// Whether a log is one of this server.
+fn has_server(log: &Log, server: u8) -> bool
+    ensures { result ≡ true → CoversServer server log.now }
+{
+    0 < server && usize::from(server) <= log.servers()
+}
 
-    ghost view = { λ j. j.log };
-
-    ghost invariant = { λ j. (length j.log.joints ≡ j.servers) × (length j.log.lasts ≡ j.items) };
+/// Whether a log is one of this item.
+fn has_item(log: &Log, item: u8) -> bool
+    ensures { result ≡ true → (1 ≤ item) × (item ≤ length log.now.lasts) }
+{
+    0 < item && usize::from(item) <= log.items()
 }
 
 impl Journal {
     pub fn new(alloc: Global, servers: u8, items: u8) -> Result<Journal, Stop> {
         let log = Log::new(alloc, servers, items)?;
-        Ok(Journal {
-            log,
-            servers,
-            items,
-        })
+        Ok(Journal { log })
     }
 
-
     fn enter(&mut self, alloc: Global, server: u8, item: u8, entry: &Arrived) -> Result<(), Stop> {
-        if 0 < server && server <= self.servers && 0 < item && item <= self.items {
-            self.log.enter(alloc, server, item, entry)?;
-            Ok(())
-        } else {
-            Err(Stop::BadLine)
+        if !is_within(&self.log, server, item) {
+            return Err(Stop::BadLine);
         }
+        self.log.enter(alloc, server, item, entry)?;
+        Ok(())
     }
 
     fn set_joint(&mut self, server: u8, item: u8, joint: Joint) -> Result<(), Stop> {
-        if 0 < server && server <= self.servers && 0 < item && item <= self.items {
-            self.log.set_joint(server, item, joint);
-            Ok(())
-        } else {
-            Err(Stop::BadLine)
+        if !is_within(&self.log, server, item) {
+            return Err(Stop::BadLine);
+        }
+        self.log.set_joint(server, item, joint);
+        Ok(())
+    }
+
+    fn turn(&mut self, server: u8, item: u8, turn: Turn) -> Result<(), Stop> {
+        if !is_within(&self.log, server, item) {
+            return Err(Stop::BadLine);
+        }
+        self.log.turn(server, item, turn);
+        Ok(())
+    }
+
+    fn turn_all(&mut self, server: u8, turn: Turn) -> Result<(), Stop> {
+        if !has_server(&self.log, server) {
+            return Err(Stop::BadLine);
+        }
+        self.log.turn_all(server, turn);
+        Ok(())
+    }
+
+    fn put_last(&self, alloc: Global, item: u8, to: &mut String) -> Result<(), Stop> {
+        if !has_item(&self.log, item) {
+            return Err(Stop::BadLine);
+        }
+        match self.log.last(item) {
+            Some(stamp) => put(to, format!(in alloc; "{stamp}")?.as_str()),
+            None => put(to, "none"),
         }
     }
 
     fn put_joint(&self, alloc: Global, server: u8, item: u8, to: &mut String) -> Result<(), Stop> {
-        if 0 < server && server <= self.servers && 0 < item && item <= self.items {
-            let joint = self.log.joint(server, item);
-            put(to, format!(in alloc; "{joint:?}")?.as_str())
-        } else {
-            Err(Stop::BadLine)
+        if !is_within(&self.log, server, item) {
+            return Err(Stop::BadLine);
         }
+        let joint = self.log.joint(server, item);
+        put(to, format!(in alloc; "{joint:?}")?.as_str())
     }
 
     fn note(&mut self, line: LogLine) -> Result<(), Stop> {
@@ -205,6 +244,11 @@ impl Journal {
             ["set_joint", server, item, word] => {
                 self.set_joint(number(server)?, number(item)?, joint(word)?)?
             }
+            ["turn", server, item, how @ ..] => {
+                self.turn(number(server)?, number(item)?, turn(how)?)?
+            }
+            ["turn_all", server, how @ ..] => self.turn_all(number(server)?, turn(how)?)?,
+            ["last", item] => return self.put_last(alloc, number(item)?, to),
             ["joint", server, item] => {
                 return self.put_joint(alloc, number(server)?, number(item)?, to);
             }

@@ -7,6 +7,7 @@ mod kept_calls;
 mod log_calls;
 mod node_calls;
 mod queue_calls;
+mod scenario_calls;
 mod session_calls;
 mod source_calls;
 mod stop;

@@ -1,13 +1,13 @@
 //! The nodes of a server.
 
 use crate::stop::Stop;
-use crate::words::{change, number, put, put_bytes, text};
+use crate::words::{change, number, put, put_bytes, put_text, text};
 use redundancy_nodes::{CurrentChanges, Member, Members, NodeFault, Nodes, class_of};
 use std::alloc::Global;
 use std::mem;
 use ua_base::OutOfMemory;
 use ua_values::{NodeId, UaBytes, UaText};
-use ua_variants::{DataValue, write_data_value};
+use ua_variants::{Array, DataValue, Variant, write_data_value};
 use uuid::Uuid;
 
 #[derive(Drop)]
@@ -26,9 +26,37 @@ enum Form {
 
 fn put_value(alloc: Global, form: Form, value: &DataValue, to: &mut String) -> Result<(), Stop> {
     match form {
-        Form::Fields => put(to, format!(in alloc; "{value:?}")?.as_str()),
+        Form::Fields => put_fields(alloc, value, to),
         Form::Bytes => put_written(alloc, value, to),
     }
+}
+
+/// Tells a value that is an array of texts by these.
+fn put_texts(to: &mut String, texts: &[UaText]) -> Result<(), Stop> {
+    put(to, "texts")?;
+    for text in texts {
+        put(to, " ")?;
+        put_text(to, text)?;
+    }
+    Ok(())
+}
+
+fn put_variant(alloc: Global, value: &Option<Variant>, to: &mut String) -> Result<(), Stop> {
+    match value {
+        Some(Variant::Array(Array::String(texts), None)) => put_texts(to, texts.as_slice()),
+        value => put(to, format!(in alloc; "value {value:?}")?.as_str()),
+    }
+}
+
+/// Tells the fields of a value by their names.
+fn put_fields(alloc: Global, value: &DataValue, to: &mut String) -> Result<(), Stop> {
+    put_variant(alloc, &value.value, to)?;
+    let status = value.status;
+    put(to, format!(in alloc; " status {status:?}")?.as_str())?;
+    let (time, pico) = (value.source_timestamp, value.source_picoseconds);
+    put(to, format!(in alloc; " source {time:?} {pico:?}")?.as_str())?;
+    let (time, pico) = (value.server_timestamp, value.server_picoseconds);
+    put(to, format!(in alloc; " server {time:?} {pico:?}")?.as_str())
 }
 
 fn put_written(alloc: Global, value: &DataValue, to: &mut String) -> Result<(), Stop> {
@@ -185,9 +213,17 @@ fn put_member(
     member: &Result<Member, OutOfMemory>,
 ) -> Result<(), Stop> {
     match member {
-        Ok(member) => put(to, format!(in alloc; "{member:?}")?.as_str()),
+        Ok(member) => put_uris(to, member),
         Err(_) => Err(Stop::OutOfMemory),
     }
+}
+
+fn put_uris(to: &mut String, member: &Member) -> Result<(), Stop> {
+    put(to, "uri ")?;
+    put_text(to, &member.uri)?;
+    put(to, " url ")?;
+    put_text(to, &member.url)?;
+    put(to, "/")
 }
 
 /// Answers the class of a level.

@@ -49,7 +49,10 @@ fn put_publish(alloc: Global, to: &mut String, publish: &Parked) -> Result<(), S
         handle,
         results,
     } = publish;
-    put(to, format!(in alloc; "request {request} handle {handle} results")?.as_str())?;
+    put(
+        to,
+        format!(in alloc; "request {request} handle {handle} results")?.as_str(),
+    )?;
     for result in results.as_slice() {
         put(to, format!(in alloc; " {result}")?.as_str())?;
     }

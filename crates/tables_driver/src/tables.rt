@@ -1,6 +1,5 @@
 //! The tables that lines speak of.
 
-use crate::base_calls;
 use crate::kept_calls::KeptTable;
 use crate::log_calls::{Journal, answer_judge};
 use crate::node_calls::{NodeTable, answer_class};
@@ -8,6 +7,7 @@ use crate::queue_calls::QueueTable;
 use crate::session_calls::SessionTable;
 use crate::source_calls::SourceTable;
 use crate::stop::Stop;
+use crate::{base_calls, scenario_calls};
 use std::alloc::Global;
 
 /// One of each table. A line `NAME new ..` makes its table anew.
@@ -42,6 +42,7 @@ impl Tables {
             ["queue", call @ ..] => self.queue.answer(alloc, call, to),
             ["log", call @ ..] => self.log.answer(alloc, call, to),
             ["source", call @ ..] => self.source.answer(alloc, call, to),
+            ["scenario", pool, text @ ..] => scenario_calls::answer(alloc, pool, text, to),
             ["judge", last, joint, time, marked] => {
                 answer_judge(alloc, [last, joint, time, marked], to)
             }

@@ -121,6 +121,17 @@ fn put_line(alloc: Global, to: &mut String, part: &str) -> Result<(), Stop> {
     }
 }
 
+/// Appends a text; `null` is the one that isn't there.
+pub fn put_text(to: &mut String, text: &UaText) -> Result<(), Stop> {
+    let Some(bytes) = text.bytes() else {
+        return put(to, "null");
+    };
+    match std::str::from_utf8(bytes) {
+        Ok(text) => put(to, text),
+        Err(_) => put(to, "no text"),
+    }
+}
+
 /// Appends bytes as hexadecimal digits; none are `-`.
 pub fn put_bytes(alloc: Global, to: &mut String, bytes: &[u8]) -> Result<(), Stop> {
     if bytes.is_empty() {
