@@ -1,0 +1,21 @@
+//! The numbers of structures' types.
+
+use crate::digits::number;
+use crate::stop::Stop;
+use crate::telling::put_debug;
+use std::alloc::Global;
+use ua_session_msgs::{IdentityTokenType, SessionReplyType, SessionRequestType};
+use ua_sub_msgs::{FilterType, NotificationType, SubReplyType, SubRequestType};
+
+/// Says which structure of each family has the number.
+pub fn tell_kind(alloc: Global, word: &str, to: &mut String) -> Result<(), Stop> {
+    let id = number(word)?;
+    put_debug(alloc, "", &SessionRequestType::of(id), to)?;
+    put_debug(alloc, " ", &SessionReplyType::of(id), to)?;
+    put_debug(alloc, " ", &IdentityTokenType::of(id), to)?;
+    put_debug(alloc, " ", &SubRequestType::of(id), to)?;
+    put_debug(alloc, " ", &SubReplyType::of(id), to)?;
+    put_debug(alloc, " ", &NotificationType::of(id), to)?;
+    put_debug(alloc, " ", &FilterType::of(id), to)?;
+    Ok(())
+}

@@ -1,0 +1,158 @@
+//! One line and its answer.
+
+ghost use Rattle.std.specs.Prelude.{◌<◌, IfOk};
+
+use crate::digits::{bytes_of, number, put_bytes};
+use crate::elements::tell_within;
+use crate::frames::{tell_count, tell_cuts, tell_frames};
+use crate::fronts::tell_fronts;
+use crate::kinds::tell_kind;
+use crate::messages::{tell_passed, tell_puts, tell_steps, tell_stream};
+use crate::stop::Stop;
+use crate::telling::Verb;
+use crate::types::tell_type;
+use crate::values::tell_copied;
+use std::alloc::Global;
+
+/// A number of bytes that is not 0.
+fn piece_of(word: &str) -> Result<usize, Stop>
+    ensures { IfOk result (λ size. 0 < size) }
+{
+    let size = number::<usize>(word)?;
+    if size == 0 {
+        Err(Stop::BadLine)
+    } else {
+        Ok(size)
+    }
+}
+
+/// The error of a type or a word that there isn't.
+fn known(is_known: bool) -> Result<(), Stop> {
+    if is_known { Ok(()) } else { Err(Stop::BadLine) }
+}
+
+/// Answers what is asked of bytes.
+fn answer_bytes(
+    alloc: Global,
+    verb: &str,
+    name: &str,
+    bytes: &[u8],
+    to: &mut String,
+) -> Result<(), Stop> {
+    match verb {
+        "copy" => known(tell_copied(alloc, name, bytes, to)?),
+        "fronts" => known(tell_fronts(alloc, name, bytes, to)?),
+        "frames" => Ok(tell_frames(alloc, piece_of(name)?, [bytes, &[]], to)?),
+        "count" => Ok(tell_count(alloc, piece_of(name)?, bytes, to)?),
+        "within" => Ok(tell_within(alloc, number(name)?, bytes, to)?),
+        _ => match Verb::of(verb) {
+            Some(verb) => known(tell_type(alloc, verb, name, bytes, to)?),
+            None => Err(Stop::BadLine),
+        },
+    }
+}
+
+/// Answers so many times, the last time for good.
+fn answer_often(
+    alloc: Global,
+    count: u32,
+    verb: &str,
+    name: &str,
+    bytes: &[u8],
+    to: &mut String,
+) -> Result<(), Stop> {
+    for _ in 0..count {
+        to.clear();
+        answer_bytes(alloc, verb, name, bytes, to)?;
+    }
+    Ok(())
+}
+
+/// Puts a body so many times.
+fn pass_often(
+    alloc: Global,
+    count: u32,
+    size: u32,
+    cut: usize,
+    bytes: &[u8],
+    to: &mut String,
+) -> Result<(), Stop>
+    requires { 0 < cut }
+{
+    for _ in 0..count {
+        to.clear();
+        tell_passed(alloc, size, cut, bytes, to)?;
+    }
+    Ok(())
+}
+
+/// Copies bytes so many times.
+fn copy_often(alloc: Global, count: u32, bytes: &[u8], to: &mut String) -> Result<(), Stop> {
+    let mut size: usize = 0;
+    for _ in 0..count {
+        size = Vec::from_slice(alloc, bytes)?.len();
+    }
+    to.push_str(&format!(in alloc; "{size}")?)?;
+    Ok(())
+}
+
+/// Answers a line of these words.
+pub fn answer(alloc: Global, words: &[&str], to: &mut String) -> Result<(), Stop> {
+    match words {
+        ["cuts", digits @ ..] => Ok(tell_cuts(alloc, &bytes_of(alloc, digits)?, to)?),
+        ["bytes", digits @ ..] => Ok(put_bytes(alloc, &bytes_of(alloc, digits)?, to)?),
+        ["kind", id] => tell_kind(alloc, id, to),
+        ["stream", channel, token, cut, digits @ ..] => Ok(tell_stream(
+            alloc,
+            number(channel)?,
+            number(token)?,
+            piece_of(cut)?,
+            &bytes_of(alloc, digits)?,
+            to,
+        )?),
+        ["take", channel, token, steps @ ..] => {
+            tell_steps(alloc, number(channel)?, number(token)?, steps, to)
+        }
+        [
+            "put",
+            channel,
+            token,
+            size,
+            max_message,
+            max_chunks,
+            steps @ ..,
+        ] => {
+            let numbers = [
+                number(channel)?,
+                number(token)?,
+                number(size)?,
+                number(max_message)?,
+                number(max_chunks)?,
+            ];
+            tell_puts(alloc, numbers, steps, to)
+        }
+        ["repeat", count, "pass", size, cut, digits @ ..] => pass_often(
+            alloc,
+            number(count)?,
+            number(size)?,
+            piece_of(cut)?,
+            &bytes_of(alloc, digits)?,
+            to,
+        ),
+        ["repeat", count, "copied", digits @ ..] => {
+            copy_often(alloc, number(count)?, &bytes_of(alloc, digits)?, to)
+        }
+        ["repeat", count, verb, name, digits @ ..] => answer_often(
+            alloc,
+            number(count)?,
+            verb,
+            name,
+            &bytes_of(alloc, digits)?,
+            to,
+        ),
+        [verb, name, digits @ ..] => {
+            answer_bytes(alloc, verb, name, &bytes_of(alloc, digits)?, to)
+        }
+        _ => Err(Stop::BadLine),
+    }
+}
