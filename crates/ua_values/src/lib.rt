@@ -11,8 +11,6 @@ mod names;
 mod node;
 mod reading;
 mod run;
-#[cfg(test)]
-mod tests;
 mod writing;
 
 pub use array::{Element, put_array, read_array, read_array_within};
