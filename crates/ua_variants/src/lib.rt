@@ -8,8 +8,6 @@ mod head;
 mod laws;
 mod nested;
 mod reading;
-#[cfg(test)]
-mod tests;
 mod variant;
 mod writing;
 
