@@ -8,8 +8,6 @@ mod front;
 mod header;
 mod laws;
 mod shared;
-#[cfg(test)]
-mod tests;
 mod unused;
 
 pub use array::UaArray;
