@@ -10,8 +10,6 @@ mod method;
 mod reply;
 mod request;
 mod session;
-#[cfg(test)]
-mod tests;
 
 pub use attribute::{ReadRequest, ReadResponse};
 pub use channel::{ChannelSecurityToken, OpenSecureChannelRequest, OpenSecureChannelResponse};
