@@ -10,8 +10,6 @@ mod reply;
 mod request;
 mod results;
 mod subscription;
-#[cfg(test)]
-mod tests;
 
 pub use filter::{DataChangeFilter, Filter, FilterType, read_filter, write_filter};
 pub use item::{
