@@ -7,12 +7,8 @@ mod framer;
 mod greeting;
 mod laws;
 mod message;
-#[cfg(test)]
-mod message_tests;
 mod opening;
 mod sender;
-#[cfg(test)]
-mod tests;
 mod writing;
 
 pub use body::Body;
