@@ -3,8 +3,6 @@
 
 mod fault;
 mod stream;
-#[cfg(test)]
-mod tests;
 mod text;
 mod value;
 
