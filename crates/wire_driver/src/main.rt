@@ -1,5 +1,5 @@
 //! Reads lines from standard input and answers each before it reads the next: what the codecs of this repository make of bytes.
-//! It is for the cases and the benches, and promises nothing. `cases/README.md` tells the lines.
+//! It is for the cases and the benches, and promises nothing. The rows of `cases/` show the lines.
 #![tactic(auto)]
 
 mod bodies;
