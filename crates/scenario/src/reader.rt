@@ -382,10 +382,9 @@ impl Reader {
     fn misses_set(&self, text: &[u8]) -> bool
         ensures { result ≡ misses_set (length self.now) (words_of text.now) }
     {
-        let (first, _) = split_word(text);
         match self.lines.len() {
-            0 => first != b"set".as_slice(),
-            1 => first != b"items".as_slice(),
+            0 => split_word(text).0 != b"set".as_slice(),
+            1 => split_word(text).0 != b"items".as_slice(),
             _ => false,
         }
     }
