@@ -10,7 +10,7 @@ use Rattle.scenario.specs.declared.line.Line.{Line}
 use Rattle.scenario.specs.declared.fault.FaultKind.{FaultKind}
 use Rattle.scenario.specs.declared.fault.FaultKind.TheVariants as kind
 use Rattle.scenario.specs.Words.{◌>>=◌, words_of, dotted, number_of, number_by, read_by, pico_by, stamp_by, integer_by, below_zero, capped}
-use Rattle.scenario.specs.Grammar.{word_at, last_at, number_at, stamp_at, integer_at, mode_at, one_number, rule_at, two_numbers, name_at, set_form, items_form, change_form, form_after, form_of, form_read}
+use Rattle.scenario.specs.Grammar.{word_at, none_left, number_at, stamp_at, integer_at, mode_at, one_number, rule_at, two_numbers, name_at, set_form, items_form, change_form, form_after, form_of, form_read}
 use Rattle.scenario.specs.Past.{servers_in, items_in}
 use Rattle.scenario.specs.Faults.{misses_set, is_in_place, is_within, fits_value, is_in_range, is_built, has_server, has_item, has_its_server, has_its_item, needs_running, starts_running, starts_too_often, source_fault, listener_fault, or_fault, set_fault, content_fault, any_form_fault, verdict, content_verdict, judged}
 
@@ -116,8 +116,8 @@ integer_at-capped words = along (word_at words) _ _ capped_value
 
 one_number-capped : (words : List (List ℕ)) → one_number capped words ≡ mapped capped (one_number plain words)
 one_number-capped words = step capped_first (number_at capped words) (number_at plain words) (number_at-capped words)
-    (λ x. last_at x.1 >>= λ _. Some x.0) (λ x. last_at x.1 >>= λ _. Some x.0) capped
-    (λ x. along (last_at x.1) (λ _. Some (capped x.0)) (λ _. Some x.0) capped (λ _. refl))
+    (λ x. none_left x.1 >>= λ _. Some x.0) (λ x. none_left x.1 >>= λ _. Some x.0) capped
+    (λ x. along (none_left x.1) (λ _. Some (capped x.0)) (λ _. Some x.0) capped (λ _. refl))
 
 two_numbers-capped : (words : List (List ℕ)) → two_numbers capped words ≡ mapped capped_pair (two_numbers plain words)
 two_numbers-capped words = step capped_first (number_at capped words) (number_at plain words) (number_at-capped words)
@@ -140,7 +140,7 @@ change_form-capped : (words : List (List ℕ)) → change_form capped words ≡ 
 change_form-capped words = step capped_first (number_at capped words) (number_at plain words) (number_at-capped words) _ _ capped_form
     (λ i. step capped_stamp_first (stamp_at capped i.1) (stamp_at plain i.1) (stamp_at-capped i.1) _ _ capped_form
     (λ t. step capped_value (integer_at capped t.1) (integer_at plain t.1) (integer_at-capped t.1) _ _ capped_form
-    (λ v. along (last_at v.1) (λ _. Some (form.Change (capped i.0) (capped t.0.0) (mapped capped t.0.1) (capped_integer v.0)))
+    (λ v. along (none_left v.1) (λ _. Some (form.Change (capped i.0) (capped t.0.0) (mapped capped t.0.1) (capped_integer v.0)))
     (λ _. Some (form.Change i.0 t.0.0 t.0.1 v.0)) capped_form (λ _. refl))))
 
 two : (words : List (List ℕ)) (f : ℕ → ℕ → Form) → ((m n : ℕ) → f (capped m) (capped n) ≡ capped_form (f m n))
@@ -164,7 +164,7 @@ form_after-capped keyword words =
     (branch (bytes_eq keyword (codes "start")) _ _ _ _ capped_form (one words (λ n. form.Start n) (λ n. refl))
     (branch (bytes_eq keyword (codes "listen")) _ _ _ _ capped_form (one words (λ n. form.Listen n) (λ n. refl))
     (branch (bytes_eq keyword (codes "unlisten")) _ _ _ _ capped_form (one words (λ n. form.Unlisten n) (λ n. refl))
-    (branch (bytes_eq keyword (codes "end")) _ _ _ _ capped_form (along (last_at words) (λ _. Some form.End) (λ _. Some form.End) capped_form (λ _. refl)) refl)))))))))
+    (branch (bytes_eq keyword (codes "end")) _ _ _ _ capped_form (along (none_left words) (λ _. Some form.End) (λ _. Some form.End) capped_form (λ _. refl)) refl)))))))))
 
 -- the form that is read is the form of the text, capped
 pub form_read-capped : (text : List ℕ) → form_read text ≡ mapped capped_form (form_of text)

@@ -11,7 +11,7 @@ use Rattle.scenario.specs.declared.form.Form.{Form}
 use Rattle.scenario.specs.declared.form.Form.TheVariants as form
 use Rattle.scenario.specs.Texts.{mode_text}
 use Rattle.scenario.specs.Words.{◌>>=◌, with_first, words_of, spaced, spaced_after, dotted, numeral, stamp_numeral, signed_numeral, number_by, pico_by, stamp_by, integer_by}
-use Rattle.scenario.specs.Grammar.{form_words, form_text, word_at, last_at, name_at, number_at, stamp_at, integer_at, mode_of, mode_at, one_number, rule_at, rule_words, two_numbers, set_form, items_form, change_form, form_after, form_by, form_of}
+use Rattle.scenario.specs.Grammar.{form_words, form_text, word_at, none_left, name_at, number_at, stamp_at, integer_at, mode_of, mode_at, one_number, rule_at, rule_words, two_numbers, set_form, items_form, change_form, form_after, form_by, form_of}
 use Rattle.scenario.proofs.WordLemmas.{dot_step, words_some}
 use Rattle.scenario.proofs.NumeralLemmas.{plain, AreDigits, numeral_digits, number_by-numeral, numeral-number_by, integer_by-numeral, numeral-integer_by}
 
@@ -20,7 +20,7 @@ spaced-first : (b : ℕ) (ws : List (List ℕ)) → spaced (with_first b ws) ≡
 spaced-first b [] = refl
 spaced-first b (w ∷ ws) = refl
 
-spaced-after : (ws : List (List ℕ)) → last_at ws ≡ None → spaced_after ws ≡ 32 ∷ spaced ws
+spaced-after : (ws : List (List ℕ)) → none_left ws ≡ None → spaced_after ws ≡ 32 ∷ spaced ws
 spaced-after [] h = absurd cc
 spaced-after (w ∷ ws) h = refl
 
@@ -195,7 +195,7 @@ mode_spelled Warm ws = refl
 mode_spelled Cold ws = refl
 
 one_spelled : (n : ℕ) → one_number plain (numeral n ∷ []) ≡ Some n
-one_spelled n = ap (λ o. o >>= λ first. last_at first.1 >>= λ _. Some first.0) (number_spelled n [])
+one_spelled n = ap (λ o. o >>= λ first. none_left first.1 >>= λ _. Some first.0) (number_spelled n [])
 
 two_spelled : (m n : ℕ) → two_numbers plain (numeral m ∷ numeral n ∷ []) ≡ Some (m, n)
 two_spelled m n =
@@ -212,10 +212,10 @@ after_spelled (form.Items items queue oldest) =
     ∙ ap (λ o. o >>= λ q. rule_at q.1 >>= λ r. Some (form.Items items q.0 r)) (number_spelled queue (rule_words oldest))
     ∙ ap (λ o. o >>= λ r. Some (form.Items items queue r)) (rule_spelled oldest)
 after_spelled (form.Change item time pico value) =
-    ap (λ o. o >>= λ i. stamp_at plain i.1 >>= λ t. integer_at plain t.1 >>= λ v. last_at v.1 >>= λ _. Some (form.Change i.0 t.0.0 t.0.1 v.0))
+    ap (λ o. o >>= λ i. stamp_at plain i.1 >>= λ t. integer_at plain t.1 >>= λ v. none_left v.1 >>= λ _. Some (form.Change i.0 t.0.0 t.0.1 v.0))
     (number_spelled item (stamp_numeral time pico ∷ signed_numeral value ∷ []))
-    ∙ ap (λ o. o >>= λ t. integer_at plain t.1 >>= λ v. last_at v.1 >>= λ _. Some (form.Change item t.0.0 t.0.1 v.0)) (stamp_at_spelled time pico (signed_numeral value ∷ []))
-    ∙ ap (λ o. o >>= λ v. last_at v.1 >>= λ _. Some (form.Change item time pico v.0)) (integer_spelled value [])
+    ∙ ap (λ o. o >>= λ t. integer_at plain t.1 >>= λ v. none_left v.1 >>= λ _. Some (form.Change item t.0.0 t.0.1 v.0)) (stamp_at_spelled time pico (signed_numeral value ∷ []))
+    ∙ ap (λ o. o >>= λ v. none_left v.1 >>= λ _. Some (form.Change item time pico v.0)) (integer_spelled value [])
 after_spelled (form.Feed server count) = ap (λ o. o >>= λ n. Some (form.Feed n.0 n.1)) (two_spelled server count)
 after_spelled (form.Take server count) = ap (λ o. o >>= λ n. Some (form.Take n.0 n.1)) (two_spelled server count)
 after_spelled (form.Stop server) = ap (λ o. o >>= λ n. Some (form.Stop n)) (one_spelled server)
@@ -258,7 +258,7 @@ word_got : (ws : List (List ℕ)) (x : List ℕ × List (List ℕ)) → word_at 
 word_got [] x h = absurd cc
 word_got (w ∷ ws) x h = let e : (w, ws) ≡ x = cc in ap (λ p. p.0 ∷ p.1) e
 
-last_got : (ws : List (List ℕ)) (u : Unit {0}) → last_at ws ≡ Some u → ws ≡ []
+last_got : (ws : List (List ℕ)) (u : Unit {0}) → none_left ws ≡ Some u → ws ≡ []
 last_got [] u h = refl
 last_got (w ∷ ws) u h = absurd cc
 
@@ -325,8 +325,8 @@ chosen false x y z h = inr (refl, h)
 
 one_got : (ws : List (List ℕ)) (n : ℕ) → one_number plain ws ≡ Some n → ws ≡ numeral n ∷ []
 one_got ws n h =
-    let a = got (number_at plain ws) (λ first. last_at first.1 >>= λ _. Some first.0) n h in
-    let b = got (last_at a.0.1) (λ _. Some a.0.0) n a.2 in
+    let a = got (number_at plain ws) (λ first. none_left first.1 >>= λ _. Some first.0) n h in
+    let b = got (none_left a.0.1) (λ _. Some a.0.0) n a.2 in
     let e : a.0.0 ≡ n = cc in
     number_got ws a.0 a.1 ∙ ap (λ more. numeral a.0.0 ∷ more) (last_got a.0.1 b.0 b.1) ∙ ap (λ m. numeral m ∷ []) e
 
@@ -384,9 +384,9 @@ name_got name ws rest h =
 rule_got : (ws : List (List ℕ)) (oldest : Bool) → rule_at ws ≡ Some oldest → ws ≡ rule_words oldest
 rule_got [] oldest h = let e : true ≡ oldest = cc in ap rule_words e
 rule_got (w ∷ ws) oldest h =
-    let a = got (name_at (codes "discard") (w ∷ ws)) (λ rest. name_at (codes "newest") rest >>= λ more. last_at more >>= λ _. Some false) oldest h in
-    let b = got (name_at (codes "newest") a.0) (λ more. last_at more >>= λ _. Some false) oldest a.2 in
-    let c = got (last_at b.0) (λ _. Some false) oldest b.2 in
+    let a = got (name_at (codes "discard") (w ∷ ws)) (λ rest. name_at (codes "newest") rest >>= λ more. none_left more >>= λ _. Some false) oldest h in
+    let b = got (name_at (codes "newest") a.0) (λ more. none_left more >>= λ _. Some false) oldest a.2 in
+    let c = got (none_left b.0) (λ _. Some false) oldest b.2 in
     let e : false ≡ oldest = cc in
     name_got (codes "discard") (w ∷ ws) a.0 a.1 ∙ ap (λ more. codes "discard" ∷ more)
     (name_got (codes "newest") a.0 b.0 b.1 ∙ ap (λ more. codes "newest" ∷ more) (last_got b.0 c.0 c.1)) ∙ ap rule_words e
@@ -422,10 +422,10 @@ change_joined ws us vs rest i t p v f a b c d e =
 
 change_got : (ws : List (List ℕ)) (f : Form) → change_form plain ws ≡ Some f → codes "change" ∷ ws ≡ form_words f
 change_got ws f h =
-    let a = got (number_at plain ws) (λ i. stamp_at plain i.1 >>= λ t. integer_at plain t.1 >>= λ v. last_at v.1 >>= λ _. Some (form.Change i.0 t.0.0 t.0.1 v.0)) f h in
-    let b = got (stamp_at plain a.0.1) (λ t. integer_at plain t.1 >>= λ v. last_at v.1 >>= λ _. Some (form.Change a.0.0 t.0.0 t.0.1 v.0)) f a.2 in
-    let c = got (integer_at plain b.0.1) (λ v. last_at v.1 >>= λ _. Some (form.Change a.0.0 b.0.0.0 b.0.0.1 v.0)) f b.2 in
-    let d = got (last_at c.0.1) (λ _. Some (form.Change a.0.0 b.0.0.0 b.0.0.1 c.0.0)) f c.2 in
+    let a = got (number_at plain ws) (λ i. stamp_at plain i.1 >>= λ t. integer_at plain t.1 >>= λ v. none_left v.1 >>= λ _. Some (form.Change i.0 t.0.0 t.0.1 v.0)) f h in
+    let b = got (stamp_at plain a.0.1) (λ t. integer_at plain t.1 >>= λ v. none_left v.1 >>= λ _. Some (form.Change a.0.0 t.0.0 t.0.1 v.0)) f a.2 in
+    let c = got (integer_at plain b.0.1) (λ v. none_left v.1 >>= λ _. Some (form.Change a.0.0 b.0.0.0 b.0.0.1 v.0)) f b.2 in
+    let d = got (none_left c.0.1) (λ _. Some (form.Change a.0.0 b.0.0.0 b.0.0.1 c.0.0)) f c.2 in
     let e : form.Change a.0.0 b.0.0.0 b.0.0.1 c.0.0 ≡ f = cc in
     change_joined ws a.0.1 b.0.1 c.0.1 a.0.0 b.0.0.0 b.0.0.1 c.0.0 f (number_got ws a.0 a.1) (stamp_got a.0.1 b.0 b.1) (integer_got b.0.1 c.0 c.1) (last_got c.0.1 d.0 d.1) e
 
@@ -443,9 +443,9 @@ one_form_got name g spelled ws f h =
     let e : g a.0 ≡ f = cc in
     ap (λ more. name ∷ more) (one_got ws a.0 a.1) ∙ spelled a.0 ∙ ap form_words e
 
-end_got : (ws : List (List ℕ)) (f : Form) → (last_at ws >>= λ _. Some form.End) ≡ Some f → codes "end" ∷ ws ≡ form_words f
+end_got : (ws : List (List ℕ)) (f : Form) → (none_left ws >>= λ _. Some form.End) ≡ Some f → codes "end" ∷ ws ≡ form_words f
 end_got ws f h =
-    let a = got (last_at ws) (λ _. Some form.End) f h in
+    let a = got (none_left ws) (λ _. Some form.End) f h in
     let e : form.End ≡ f = cc in
     ap (λ more. codes "end" ∷ more) (last_got ws a.0 a.1) ∙ ap form_words e
 
@@ -462,7 +462,7 @@ none_got : (keyword : List ℕ) (ws : List (List ℕ)) (f : Form) → ◌≡◌ 
 none_got keyword ws f h = absurd cc
 
 abbrev from_end : List ℕ → List (List ℕ) → Option Form
-from_end keyword ws = cond (bytes_eq keyword (codes "end")) (last_at ws >>= λ _. Some form.End) (None)
+from_end keyword ws = cond (bytes_eq keyword (codes "end")) (none_left ws >>= λ _. Some form.End) (None)
 
 abbrev from_unlisten : List ℕ → List (List ℕ) → Option Form
 from_unlisten keyword ws = cond (bytes_eq keyword (codes "unlisten")) (one_number plain ws >>= λ n. Some (form.Unlisten n)) (from_end keyword ws)
@@ -499,7 +499,7 @@ after_got keyword ws f h =
     keyword_case keyword (codes "start") ws f (one_number plain ws >>= λ n. Some (form.Start n)) (from_listen keyword ws) (one_form_got (codes "start") (λ n. form.Start n) (λ n. refl) ws f) (
     keyword_case keyword (codes "listen") ws f (one_number plain ws >>= λ n. Some (form.Listen n)) (from_unlisten keyword ws) (one_form_got (codes "listen") (λ n. form.Listen n) (λ n. refl) ws f) (
     keyword_case keyword (codes "unlisten") ws f (one_number plain ws >>= λ n. Some (form.Unlisten n)) (from_end keyword ws) (one_form_got (codes "unlisten") (λ n. form.Unlisten n) (λ n. refl) ws f) (
-    keyword_case keyword (codes "end") ws f (last_at ws >>= λ _. Some form.End) None (end_got ws f) (none_got keyword ws f)))))))))) h
+    keyword_case keyword (codes "end") ws f (none_left ws >>= λ _. Some form.End) None (end_got ws f) (none_got keyword ws f)))))))))) h
 
 -- what has a form is that form's spelling
 pub form_text-form_of : (text : List ℕ) (f : Form) → form_of text ≡ Some f → form_text f ≡ text

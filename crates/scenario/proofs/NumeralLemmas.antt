@@ -51,7 +51,7 @@ pub number_of-numeral : (n : ℕ) → number_of (numeral n) ≡ Some n
 number_of-numeral n = numeral_case n (n == 0) refl
 
 -- what goes on with digits: the number is not 0, and its digits are those before and these
-record GoesOn (m n : ℕ) (cs : List ℕ) : Type 0 where
+record MoreDigits (m n : ℕ) (cs : List ℕ) : Type 0 where
   above : 0 < n
   digits : map (λ digit. 48 + digit) (digits_of 10 n) ≡ map (λ digit. 48 + digit) (digits_of 10 m) ++ cs
 
@@ -63,7 +63,7 @@ one_more m d above small =
     ∙ ap (λ k. digits_of 10 k ++ ((m * 10 + d) % 10 ∷ [])) q ∙ ap (λ k. digits_of 10 m ++ k ∷ []) r
 
 goes_case : (m n c : ℕ) (cs : List ℕ) (b : Bool) → 0 < m → is_ascii_digit c ≡ b → cond b (digits_from (m * 10 + (c - 48)) cs) None ≡ Some n
-    → (0 < m * 10 + (c - 48) → digits_from (m * 10 + (c - 48)) cs ≡ Some n → GoesOn (m * 10 + (c - 48)) n cs) → GoesOn m n (c ∷ cs)
+    → (0 < m * 10 + (c - 48) → digits_from (m * 10 + (c - 48)) cs ≡ Some n → MoreDigits (m * 10 + (c - 48)) n cs) → MoreDigits m n (c ∷ cs)
 goes_case m n c cs true above e h more =
     let r = is_digit c e in
     let next = more (omega arith) h in
@@ -76,10 +76,10 @@ goes_case m n c cs true above e h more =
     }
 goes_case m n c cs false above e h more = absurd cc
 
-goes_on : (m n : ℕ) (cs : List ℕ) → 0 < m → digits_from m cs ≡ Some n → GoesOn m n cs
+goes_on : (m n : ℕ) (cs : List ℕ) → 0 < m → digits_from m cs ≡ Some n → MoreDigits m n cs
 goes_on m n [] above h =
     let e : m ≡ n = cc in
-    let P : ℕ → Type 0 = λ k. GoesOn m k [] in
+    let P : ℕ → Type 0 = λ k. MoreDigits m k [] in
     subst P e (record { above = above; digits = sym (append-nil (map (λ digit. 48 + digit) (digits_of 10 m))) })
 goes_on m n (c ∷ cs) above h = goes_case m n c cs (is_ascii_digit c) above refl h (λ a k. goes_on (m * 10 + (c - 48)) n cs a k)
 

@@ -6,7 +6,7 @@ use Rattle.std.specs.Char.{is_ascii_digit}
 use Rattle.std.proofs.lemmas.Bool.Decides.{nat_tests}
 use Rattle.std.proofs.lemmas.List.{take_rest}
 use Rattle.scenario.specs.Words.{with_first, lines_of, words_of, dotted, digits_from, capped, read_by}
-use Rattle.scenario.specs.Grammar.{last_at, newest_at, rule_at}
+use Rattle.scenario.specs.Grammar.{none_left, newest_at, rule_at}
 
 abbrev pub is_at : ℕ → ℕ → Bool
 is_at sep byte = byte == sep
@@ -123,20 +123,20 @@ dot_found xs place h =
 pub dot_none : (xs : List ℕ) → position (is_at 46) xs ≡ None → dotted xs ≡ (xs, None)
 dot_none xs h = undot xs (place_none _ _ _ refl h)
 
-some_first : (byte : ℕ) (words : List (List ℕ)) → last_at (with_first byte words) ≡ None
+some_first : (byte : ℕ) (words : List (List ℕ)) → none_left (with_first byte words) ≡ None
 some_first byte [] = refl
 some_first byte (word ∷ words) = refl
 
-some_word : (byte : ℕ) (rest : List ℕ) (b : Bool) → last_at (cond b ([] ∷ words_of rest) (with_first byte (words_of rest))) ≡ None
+some_word : (byte : ℕ) (rest : List ℕ) (b : Bool) → none_left (cond b ([] ∷ words_of rest) (with_first byte (words_of rest))) ≡ None
 some_word byte rest true = refl
 some_word byte rest false = some_first byte (words_of rest)
 
 -- each text has a word
-pub words_some : (text : List ℕ) → last_at (words_of text) ≡ None
+pub words_some : (text : List ℕ) → none_left (words_of text) ≡ None
 words_some [] = refl
 words_some (byte ∷ rest) = some_word byte rest (byte == 32)
 
-rule_first : (words : List (List ℕ)) → last_at words ≡ None → rule_at words ≡ newest_at words
+rule_first : (words : List (List ℕ)) → none_left words ≡ None → rule_at words ≡ newest_at words
 rule_first [] h = absurd cc
 rule_first (word ∷ words) h = refl
 

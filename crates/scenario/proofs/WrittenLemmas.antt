@@ -12,7 +12,7 @@ use Rattle.scenario.specs.declared.line.Line.{Line}
 use Rattle.scenario.specs.Texts.{mode_text, line_text, rule_text, written}
 use Rattle.set_model.specs.Stamp.{pico_text}
 use Rattle.scenario.specs.Words.{with_first, lines_of, spaced_after, numeral, signed_numeral, stamp_numeral}
-use Rattle.scenario.specs.Grammar.{last_at, as_written, form_of, form_text, rule_words, written_as, written_form, written_pico}
+use Rattle.scenario.specs.Grammar.{none_left, as_written, form_of, form_text, rule_words, written_as, written_form, written_pico}
 use Rattle.scenario.specs.Past.{servers_of, items_of, servers_in, items_in, has_ended}
 use Rattle.scenario.specs.Faults.{is_within, fits_value, pico_of, fault_of, line_of, judged}
 use Rattle.scenario.specs.Scenario.{kind_at_end, valid_from, scenario_of}
@@ -194,15 +194,15 @@ joined-texts : (lines : List Line) → joined (map line_text lines) ≡ written 
 joined-texts [] = refl
 joined-texts (l ∷ ls) = ap (λ rest. line_text l ++ codes "\n" ++ rest) (joined-texts ls)
 
-first_some : (b : ℕ) (ws : List (List ℕ)) → last_at (with_first b ws) ≡ None
+first_some : (b : ℕ) (ws : List (List ℕ)) → none_left (with_first b ws) ≡ None
 first_some b [] = refl
 first_some b (w ∷ ws) = refl
 
-some_line : (b : ℕ) (rest : List ℕ) (feed : Bool) → last_at (cond feed ([] ∷ lines_of rest) (with_first b (lines_of rest))) ≡ None
+some_line : (b : ℕ) (rest : List ℕ) (feed : Bool) → none_left (cond feed ([] ∷ lines_of rest) (with_first b (lines_of rest))) ≡ None
 some_line b rest true = refl
 some_line b rest false = first_some b (lines_of rest)
 
-joined-first : (b : ℕ) (ws : List (List ℕ)) → last_at ws ≡ None → joined (with_first b ws) ≡ b ∷ joined ws
+joined-first : (b : ℕ) (ws : List (List ℕ)) → none_left ws ≡ None → joined (with_first b ws) ≡ b ∷ joined ws
 joined-first b [] h = absurd cc
 joined-first b (w ∷ ws) h = refl
 

@@ -1,5 +1,6 @@
 -- What is wrong with a line after the lines before it: the first kind that fits.
-use Rattle.std.specs.Prelude.{◌==◌, ℕ, ◌^◌, ℤ, pos, negsuc, List, [], ◌∷◌, Bool, true, false, not, ◌&&◌, ◌||◌, Option, Some, None, Result, Ok, Err, codes, length, if◌then◌else◌, nat_le, nat_lt}
+use Rattle.std.specs.Prelude.{◌==◌, ℕ, ◌^◌, ℤ, pos, negsuc, List, [], ◌∷◌, Bool, true, false, not, ◌&&◌, ◌||◌, Option}
+use Rattle.std.specs.Prelude.{Some, None, Result, Ok, Err, codes, length, if◌then◌else◌, nat_le, nat_lt}
 use Rattle.std.specs.Str.{bytes_eq}
 use Rattle.std.specs.List.{list_any}
 use Rattle.ua_base.specs.declared.modes.SetMode.{SetMode}
@@ -16,7 +17,8 @@ use Rattle.scenario.specs.declared.fault.FaultKind.{FaultKind}
 use Rattle.scenario.specs.declared.fault.FaultKind.TheVariants as kind
 use Rattle.scenario.specs.Words.{words_of}
 use Rattle.scenario.specs.Grammar.{form_of}
-use Rattle.scenario.specs.Past.{servers_in, items_in, changes_in, is_running, boot_of, has_ended, listens_in, attached_in}
+use Rattle.scenario.specs.Past.{servers_in, items_in, changes_in, is_running, boot_of, has_ended, listens_in}
+use Rattle.scenario.specs.Past.{attached_in}
 
 abbrev pub first_is : List (List ℕ) → List ℕ → Bool
 first_is [] name = false
@@ -61,7 +63,8 @@ pico_of (Some pico) = pico
 abbrev pub is_in_range : Form → Bool
 is_in_range (form.Set mode servers) = is_within 1 8 servers
 is_in_range (form.Items items queue oldest) = is_within 1 64 items && is_within 2 1000 queue
-is_in_range (form.Change item time pico value) = is_within 1 (10 ^ 18) time && is_within 0 9999 (pico_of pico) && fits_value value
+is_in_range (form.Change item time pico value) =
+    is_within 1 (10 ^ 18) time && is_within 0 9999 (pico_of pico) && fits_value value
 is_in_range (form.Feed server count) = is_within 1 200000 count
 is_in_range (form.Take server count) = is_within 1 1000 count
 is_in_range (form.Unlisten id) = is_within 1 255 id
@@ -124,12 +127,14 @@ kind_of_refusal (Some source.SameValue) = Some kind.SameValue
 kind_of_refusal _ = None
 
 abbrev pub source_fault : List Line → Form → Option FaultKind
-source_fault before (form.Change item time pico value) = kind_of_refusal (refusal (changes_in before) (the_change item time pico value))
+source_fault before (form.Change item time pico value) =
+    kind_of_refusal (refusal (changes_in before) (the_change item time pico value))
 source_fault before _ = None
 
 -- NoListener
 abbrev pub has_no_listener : ℕ → List Line → Bool
-has_no_listener pool before = nat_le pool (listens_in before) || nat_le 16 (length (attached_in before)) || nat_le 255 (listens_in before)
+has_no_listener pool before =
+    nat_le pool (listens_in before) || nat_le 16 (length (attached_in before)) || nat_le 255 (listens_in before)
 
 abbrev pub lacks_listener : ℕ → List Line → Form → Bool
 lacks_listener pool before (form.Listen item) = has_no_listener pool before

@@ -6,7 +6,8 @@ use Rattle.ua_base.specs.declared.modes.SetMode.TheVariants.{Direct, Hot, Warm, 
 use Rattle.scenario.specs.declared.form.Form.{Form}
 use Rattle.scenario.specs.declared.form.Form.TheVariants as form
 use Rattle.scenario.specs.Texts.{mode_text}
-use Rattle.scenario.specs.Words.{◌>>=◌, words_of, spaced, numeral, stamp_numeral, signed_numeral, number_by, stamp_by, integer_by, capped}
+use Rattle.scenario.specs.Words.{◌>>=◌, words_of, spaced, numeral, stamp_numeral, signed_numeral, number_by, stamp_by}
+use Rattle.scenario.specs.Words.{integer_by, capped}
 
 -- what a queue drops where it is full: its oldest entry, unless it is said that it is the newest
 abbrev pub rule_words : Bool → List (List ℕ)
@@ -16,8 +17,10 @@ rule_words false = codes "discard" ∷ codes "newest" ∷ []
 -- the words of a form
 abbrev pub form_words : Form → List (List ℕ)
 form_words (form.Set mode servers) = codes "set" ∷ mode_text mode ∷ numeral servers ∷ []
-form_words (form.Items items queue oldest) = codes "items" ∷ numeral items ∷ codes "queue" ∷ numeral queue ∷ rule_words oldest
-form_words (form.Change item time pico value) = codes "change" ∷ numeral item ∷ stamp_numeral time pico ∷ signed_numeral value ∷ []
+form_words (form.Items items queue oldest) =
+    codes "items" ∷ numeral items ∷ codes "queue" ∷ numeral queue ∷ rule_words oldest
+form_words (form.Change item time pico value) =
+    codes "change" ∷ numeral item ∷ stamp_numeral time pico ∷ signed_numeral value ∷ []
 form_words (form.Feed server count) = codes "feed" ∷ numeral server ∷ numeral count ∷ []
 form_words (form.Take server count) = codes "take" ∷ numeral server ∷ numeral count ∷ []
 form_words (form.Stop server) = codes "stop" ∷ numeral server ∷ []
@@ -36,9 +39,9 @@ word_at [] = None
 word_at (word ∷ words) = Some (word, words)
 
 -- no word is left
-abbrev pub last_at : List (List ℕ) → Option (Unit {0})
-last_at [] = Some tt
-last_at (word ∷ words) = None
+abbrev pub none_left : List (List ℕ) → Option (Unit {0})
+none_left [] = Some tt
+none_left (word ∷ words) = None
 
 abbrev pub number_at : (ℕ → ℕ) → List (List ℕ) → Option (ℕ × List (List ℕ))
 number_at cap words = do
@@ -76,7 +79,7 @@ mode_at words = do
 abbrev pub one_number : (ℕ → ℕ) → List (List ℕ) → Option ℕ
 one_number cap words = do
   first ← number_at cap words
-  _ ← last_at first.1
+  _ ← none_left first.1
   Some first.0
 
 -- exactly two numbers
@@ -102,7 +105,7 @@ abbrev pub newest_at : List (List ℕ) → Option Bool
 newest_at words = do
   rest ← name_at (codes "discard") words
   more ← name_at (codes "newest") rest
-  _ ← last_at more
+  _ ← none_left more
   Some false
 
 -- whether the oldest entry is dropped
@@ -123,7 +126,7 @@ change_form cap words = do
   item ← number_at cap words
   stamp ← stamp_at cap item.1
   value ← integer_at cap stamp.1
-  _ ← last_at value.1
+  _ ← none_left value.1
   Some (form.Change item.0 stamp.0.0 stamp.0.1 value.0)
 
 -- the form after its first word; numbers are read through `cap`
@@ -138,7 +141,7 @@ form_after cap keyword words =
     else if bytes_eq keyword (codes "start") then (one_number cap words >>= λ n. Some (form.Start n))
     else if bytes_eq keyword (codes "listen") then (one_number cap words >>= λ n. Some (form.Listen n))
     else if bytes_eq keyword (codes "unlisten") then (one_number cap words >>= λ n. Some (form.Unlisten n))
-    else if bytes_eq keyword (codes "end") then (last_at words >>= λ _. Some form.End)
+    else if bytes_eq keyword (codes "end") then (none_left words >>= λ _. Some form.End)
     else None
 
 -- picoseconds of 0 are not written

@@ -1,5 +1,6 @@
 -- What the lines before say: the set, its servers' lives, the source and the listeners. Lines stand oldest first.
-use Rattle.std.specs.Prelude.{◌==◌, ℕ, ◌+◌, List, [], ◌∷◌, ◌++◌, Bool, true, false, not, Option, Some, length, reverse, find, filter}
+use Rattle.std.specs.Prelude.{◌==◌, ℕ, ◌+◌, List, [], ◌∷◌, ◌++◌, Bool, true, false, not, Option, Some, length}
+use Rattle.std.specs.Prelude.{reverse, find, filter}
 use Rattle.std.specs.List.{flat_map, list_any}
 use Rattle.set_model.specs.declared.source.Change.{Change}
 use Rattle.scenario.specs.declared.line.Line.{Line}

@@ -1,5 +1,6 @@
 -- What a reader recalls of the lines before, so that no line needs to be looked at again.
-use Rattle.std.specs.Prelude.{◌≡◌, ℕ, ◌+◌, ◌-◌, ◌<◌, ◌≤◌, List, [], ◌∷◌, ◌++◌, true, false, Result, Ok, Err, length, slice_index_or, slice_set, replicate}
+use Rattle.std.specs.Prelude.{◌≡◌, ℕ, ◌+◌, ◌-◌, ◌<◌, ◌≤◌, List, [], ◌∷◌, ◌++◌, true, false, Result, Ok, Err, length}
+use Rattle.std.specs.Prelude.{slice_index_or, slice_set, replicate}
 use Rattle.set_model.specs.Source.{End, IsEndOf}
 use Rattle.scenario.specs.declared.line.Line.{Line}
 use Rattle.scenario.specs.declared.line.Line.TheVariants as line
@@ -8,7 +9,8 @@ use Rattle.scenario.specs.declared.fault.ReadError.{ReadError}
 use Rattle.scenario.specs.declared.fault.ReadError.TheVariants as errors
 use Rattle.scenario.specs.declared.tally.Life.{Life}
 use Rattle.scenario.specs.declared.tally.Tally.{Tally}
-use Rattle.scenario.specs.Past.{servers_in, items_in, changes_in, is_running, boot_of, has_ended, listens_in, attached_in}
+use Rattle.scenario.specs.Past.{servers_in, items_in, changes_in, is_running, boot_of, has_ended, listens_in}
+use Rattle.scenario.specs.Past.{attached_in}
 
 -- a server before any line speaks of it
 abbrev pub fresh : Life
@@ -30,8 +32,10 @@ blank_tally = record { servers = 0; items = 0; lives = replicate 8 fresh; listen
 abbrev pub tally_after : Tally → Line → Tally
 tally_after tally (line.Set mode servers) = record tally { servers = servers }
 tally_after tally (line.Items items queue oldest) = record tally { items = items }
-tally_after tally (line.Stop server) = with_life tally server (record { running = false; boot = (life_in tally server).boot })
-tally_after tally (line.Start server) = with_life tally server (record { running = true; boot = (life_in tally server).boot + 1 })
+tally_after tally (line.Stop server) =
+    with_life tally server (record { running = false; boot = (life_in tally server).boot })
+tally_after tally (line.Start server) =
+    with_life tally server (record { running = true; boot = (life_in tally server).boot + 1 })
 tally_after tally (line.Listen item) = record tally { listens = tally.listens + 1 }
 tally_after tally line.End = record tally { ended = true }
 tally_after tally _ = tally
@@ -73,5 +77,6 @@ MayFollow lines _ = Unit {0}
 -- what a step answers and leaves, where the line's verdict is known; after want of memory nothing changed
 abbrev pub Steps : Result Line FaultKind → List Line → Result Line ReadError → List Line → Type 0
 Steps judged old (Ok l) new = (judged ≡ Ok l) × (new ≡ old ++ l ∷ [])
-Steps judged old (Err (errors.Fault fault)) new = (judged ≡ Err fault.kind) × (fault.line ≡ length old + 1) × (new ≡ old)
+Steps judged old (Err (errors.Fault fault)) new =
+    (judged ≡ Err fault.kind) × (fault.line ≡ length old + 1) × (new ≡ old)
 Steps judged old (Err errors.OutOfMemory) new = new ≡ old

@@ -22,14 +22,16 @@ ended before =
     else Err (record { line = length before + 1; kind = kind_at_end before })
 
 -- the line's fault at its place, or what follows after its line
-abbrev pub go_on : List Line → (Line → Result (List Line) ScenarioFault) → Result Line FaultKind → Result (List Line) ScenarioFault
+abbrev pub go_on : List Line → (Line → Result (List Line) ScenarioFault) → Result Line FaultKind
+    → Result (List Line) ScenarioFault
 go_on before more (Err k) = Err (record { line = length before + 1; kind = k })
 go_on before more (Ok l) = more l
 
 -- the lines of a scenario that goes on with these texts, or its first faulty line
 abbrev pub valid_from : ℕ → List Line → List (List ℕ) → Result (List Line) ScenarioFault
 valid_from pool before [] = ended before
-valid_from pool before (text ∷ texts) = go_on before (λ l. valid_from pool (before ++ l ∷ []) texts) (judged pool before text)
+valid_from pool before (text ∷ texts) =
+    go_on before (λ l. valid_from pool (before ++ l ∷ []) texts) (judged pool before text)
 
 -- the lines of a scenario's text, or its first faulty line; `pool` is how many listeners there are
 abbrev pub scenario_of : ℕ → List ℕ → Result (List Line) ScenarioFault

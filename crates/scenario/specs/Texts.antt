@@ -20,7 +20,9 @@ mode_text Warm = codes "warm"
 mode_text Cold = codes "cold"
 
 abbrev pub change_text : Change → List ℕ
-change_text change = codes "change " ++ decimal change.item ++ codes " " ++ stamp_text (stamp_of change) ++ codes " " ++ signed_decimal change.value
+change_text change =
+    codes "change " ++ decimal change.item ++ codes " " ++ stamp_text (stamp_of change) ++ codes " "
+    ++ signed_decimal change.value
 
 -- which entry a full queue drops, where it isn't the oldest
 abbrev pub rule_text : Bool → List ℕ
@@ -30,7 +32,8 @@ rule_text false = codes " discard newest"
 -- a line without its line feed
 abbrev pub line_text : Line → List ℕ
 line_text (line.Set mode servers) = codes "set " ++ mode_text mode ++ codes " " ++ decimal servers
-line_text (line.Items items queue oldest) = codes "items " ++ decimal items ++ codes " queue " ++ decimal queue ++ rule_text oldest
+line_text (line.Items items queue oldest) =
+    codes "items " ++ decimal items ++ codes " queue " ++ decimal queue ++ rule_text oldest
 line_text (line.Change change) = change_text change
 line_text (line.Feed server count) = codes "feed " ++ decimal server ++ codes " " ++ decimal count
 line_text (line.Take server count) = codes "take " ++ decimal server ++ codes " " ++ decimal count

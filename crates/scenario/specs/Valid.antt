@@ -1,5 +1,6 @@
 -- What the lines of a scenario are, said of the lines alone.
-use Rattle.std.specs.Prelude.{◌≡◌, ◌==◌, Some, None, ℕ, ◌<◌, ◌≤◌, ◌^◌, pos, List, [], ◌∷◌, ◌++◌, Bool, true, false, length}
+use Rattle.std.specs.Prelude.{◌≡◌, ◌==◌, Some, None, ℕ, ◌<◌, ◌≤◌, ◌^◌, pos, List, [], ◌∷◌, ◌++◌, Bool, true, false}
+use Rattle.std.specs.Prelude.{length}
 use Rattle.std.specs.List.{list_any}
 use Rattle.ua_base.specs.declared.modes.SetMode.TheVariants.{Direct}
 use Rattle.set_model.specs.declared.source.Change.{Change}
@@ -7,7 +8,8 @@ use Rattle.set_model.specs.Source.{Follows, IsSource, last_of}
 use Rattle.scenario.specs.declared.line.Line.{Line}
 use Rattle.scenario.specs.declared.line.Line.TheVariants as line
 use Rattle.scenario.specs.Texts.{line_text}
-use Rattle.scenario.specs.Past.{servers_in, items_in, changes_in, is_running, boot_of, has_ended, listens_in, attached_in}
+use Rattle.scenario.specs.Past.{servers_in, items_in, changes_in, is_running, boot_of, has_ended, listens_in}
+use Rattle.scenario.specs.Past.{attached_in}
 use Rattle.scenario.specs.Faults.{fault_of, fits_value}
 
 abbrev pub IsFrom : ℕ → ℕ → ℕ → Type 0
@@ -30,7 +32,8 @@ abbrev pub AllFit : ℕ → ℕ → List Line → Type 0
 AllFit servers items [] = Unit {0}
 AllFit servers items (l ∷ ls) = Fits servers items l × AllFit servers items ls
 
--- the set, the items, lines that fit them, and `end`; all changes together are a source; no server's boot number passes its type
+-- the set, the items, lines that fit them, and `end`; all changes together are a source; no server's boot number passes
+-- its type
 pub record IsScenario (pool : ℕ) (lines : List Line) : Type 0 where
   pub servers : ℕ
   pub items : ℕ
@@ -88,14 +91,16 @@ pub record HasListener (pool : ℕ) (before : List Line) : Type 0 where
 abbrev pub Stands : ℕ → List Line → Line → Type 0
 Stands pool before (line.Set mode servers) = (length before ≡ 0) × (mode ≡ Direct) × IsFrom 1 8 servers
 Stands pool before (line.Items items queue oldest) = (length before ≡ 1) × IsFrom 1 64 items × IsFrom 2 1000 queue
-Stands pool before (line.Change change) = IsBetween before × IsChange (items_in before) change × MayCome (changes_in before) change
+Stands pool before (line.Change change) =
+    IsBetween before × IsChange (items_in before) change × MayCome (changes_in before) change
 Stands pool before (line.Feed server count) = IsBetween before × Runs before server × IsFrom 1 200000 count
 Stands pool before (line.Take server count) = IsBetween before × Runs before server × IsFrom 1 1000 count
 Stands pool before (line.Stop server) = IsBetween before × Runs before server
 Stands pool before (line.Start server) =
     IsBetween before × IsServer before server × (is_running server before ≡ false) × (boot_of server before < 65535)
 Stands pool before (line.Listen item) = IsBetween before × IsFrom 1 (items_in before) item × HasListener pool before
-Stands pool before (line.Unlisten id) = IsBetween before × IsFrom 1 255 id × (list_any (λ other. other == id) (attached_in before) ≡ true)
+Stands pool before (line.Unlisten id) =
+    IsBetween before × IsFrom 1 255 id × (list_any (λ other. other == id) (attached_in before) ≡ true)
 Stands pool before line.End = IsBetween before
 
 -- each of these lines may stand after those before it

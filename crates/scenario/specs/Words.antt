@@ -1,5 +1,6 @@
 -- A text as lines, a line as words, a word as a number.
-use Rattle.std.specs.Prelude.{◌≡◌, ◌==◌, ℕ, ◌+◌, ◌-◌, ◌*◌, ◌^◌, min, ℤ, pos, negsuc, zero, suc, List, [], ◌∷◌, ◌++◌, Option, Some, None, codes, map, if◌then◌else◌}
+use Rattle.std.specs.Prelude.{◌≡◌, ◌==◌, ℕ, ◌+◌, ◌-◌, ◌*◌, ◌^◌, min, ℤ, pos, negsuc, zero, suc, List, [], ◌∷◌, ◌++◌}
+use Rattle.std.specs.Prelude.{Option, Some, None, codes, map, if◌then◌else◌}
 use Rattle.std.specs.Char.{is_ascii_digit}
 use Rattle.std.specs.Int.Digits.{digits_of}
 
@@ -10,9 +11,9 @@ abbrev pub ◌>>=◌ : {A B : Type 0} → Option A → (A → Option B) → Opti
 None >>= f = None
 
 -- an answer of the code, as `shown`, is what a definition gives
-abbrev pub Gives : {A B : Type 0} → (A → B) → Option A → Option B → Type 0
-Gives shown (Some answer) read = read ≡ Some (shown answer)
-Gives shown None read = read ≡ None
+abbrev pub Finds : {A B : Type 0} → (A → B) → Option A → Option B → Type 0
+Finds shown (Some answer) read = read ≡ Some (shown answer)
+Finds shown None read = read ≡ None
 
 -- one byte more before the first of some pieces
 abbrev pub with_first : ℕ → List (List ℕ) → List (List ℕ)

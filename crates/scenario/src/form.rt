@@ -1,7 +1,7 @@
 ghost use Rattle.std.specs.Prelude.{◌≡◌, Some, None, ℕ};
 ghost use Rattle.std.specs.Option.{option_copied};
-ghost use Rattle.scenario.specs.Words.{capped, Gives, words_left};
-ghost use Rattle.scenario.specs.Grammar.{word_at, last_at, name_at, number_at, stamp_at, integer_at};
+ghost use Rattle.scenario.specs.Words.{capped, Finds, words_left};
+ghost use Rattle.scenario.specs.Grammar.{word_at, none_left, name_at, number_at, stamp_at, integer_at};
 ghost use Rattle.scenario.specs.Grammar.{mode_of, mode_at, one_number, two_numbers, newest_at, rule_at};
 ghost use Rattle.scenario.specs.Grammar.{set_form, items_form, change_form, form_after, form_by, form_read};
 
@@ -61,7 +61,7 @@ pub enum Form {
 
 /// The next word, and what is left after it.
 fn next_word<'a>(rest: Option<&'a [u8]>) -> Option<(&'a [u8], Option<&'a [u8]>)>
-    ensures { Gives (λ x. (x.0.now, words_left (option_copied x.1))) result
+    ensures { Finds (λ x. (x.0.now, words_left (option_copied x.1))) result
         (word_at (words_left (option_copied rest.entry))) }
 {
     Some(split_word(rest?))
@@ -69,7 +69,7 @@ fn next_word<'a>(rest: Option<&'a [u8]>) -> Option<(&'a [u8], Option<&'a [u8]>)>
 
 /// Nothing, where no word is left.
 fn last(rest: Option<&[u8]>) -> Option<()>
-    ensures { result ≡ last_at (words_left (option_copied rest.entry)) }
+    ensures { result ≡ none_left (words_left (option_copied rest.entry)) }
 {
     match rest {
         None => Some(()),
@@ -78,7 +78,7 @@ fn last(rest: Option<&[u8]>) -> Option<()>
 }
 
 fn next_number<'a>(rest: Option<&'a [u8]>) -> Option<(u64, Option<&'a [u8]>)>
-    ensures { Gives (λ x. (x.0, words_left (option_copied x.1))) result
+    ensures { Finds (λ x. (x.0, words_left (option_copied x.1))) result
         (number_at capped (words_left (option_copied rest.entry))) }
 {
     let (word, rest) = next_word(rest)?;
@@ -88,7 +88,7 @@ fn next_number<'a>(rest: Option<&'a [u8]>) -> Option<(u64, Option<&'a [u8]>)>
 
 /// A time and the picoseconds behind its dot, if it has one.
 fn next_stamp<'a>(rest: Option<&'a [u8]>) -> Option<((u64, Option<u64>), Option<&'a [u8]>)>
-    ensures { Gives (λ x. (x.0, words_left (option_copied x.1))) result
+    ensures { Finds (λ x. (x.0, words_left (option_copied x.1))) result
         (stamp_at capped (words_left (option_copied rest.entry))) }
 {
     let (word, rest) = next_word(rest)?;
@@ -97,7 +97,7 @@ fn next_stamp<'a>(rest: Option<&'a [u8]>) -> Option<((u64, Option<u64>), Option<
 }
 
 fn next_integer<'a>(rest: Option<&'a [u8]>) -> Option<(i128, Option<&'a [u8]>)>
-    ensures { Gives (λ x. (x.0, words_left (option_copied x.1))) result
+    ensures { Finds (λ x. (x.0, words_left (option_copied x.1))) result
         (integer_at capped (words_left (option_copied rest.entry))) }
 {
     let (word, rest) = next_word(rest)?;
@@ -122,7 +122,7 @@ fn mode_of(word: &[u8]) -> Option<SetMode>
 }
 
 fn next_mode<'a>(rest: Option<&'a [u8]>) -> Option<(SetMode, Option<&'a [u8]>)>
-    ensures { Gives (λ x. (x.0, words_left (option_copied x.1))) result
+    ensures { Finds (λ x. (x.0, words_left (option_copied x.1))) result
         (mode_at (words_left (option_copied rest.entry))) }
 {
     let (word, rest) = next_word(rest)?;
@@ -132,7 +132,7 @@ fn next_mode<'a>(rest: Option<&'a [u8]>) -> Option<(SetMode, Option<&'a [u8]>)>
 
 /// What is left after this word.
 fn after_name<'a>(name: &[u8], rest: Option<&'a [u8]>) -> Option<Option<&'a [u8]>>
-    ensures { Gives (λ x. words_left (option_copied x)) result
+    ensures { Finds (λ x. words_left (option_copied x)) result
         (name_at name.now (words_left (option_copied rest.entry))) }
 {
     let (word, rest) = next_word(rest)?;
