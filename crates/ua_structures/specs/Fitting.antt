@@ -54,10 +54,6 @@ record_reads S C at parts make made parted reader =
     (λ bytes cut. cut)
     (reads_mapped S C at make reader)
 
--- so many elements as an array may have can be counted
-pub most_items : 65536 < 2 ^ 31
-most_items = omega arith
-
 pub unused_reads : {A U : Type 0} (S : A → List ℕ → Type 0) (C : List ℕ → Type 0) (at : Reader A) (nothing : U) → ((u : U) → u ≡ nothing) → Reads S C at
     → Reads (λ (u : U) bytes. (a : A) × S a bytes) C (at >>= λ a. give nothing)
 unused_reads {A = A} S C at nothing only reader =

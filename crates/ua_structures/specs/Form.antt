@@ -6,6 +6,7 @@ use Rattle.ua_values.specs.declared.node.NodeId.{NodeId}
 use Rattle.ua_values.specs.declared.names.QualifiedName.{QualifiedName}
 use Rattle.ua_values.specs.declared.names.LocalizedText.{LocalizedText}
 use Rattle.ua_values.specs.declared.extension.ExtensionObject.{ExtensionObject}
+use Rattle.ua_values.specs.Limits.{most_items}
 use Rattle.ua_values.specs.Reading.{Reader, ◌>>=◌, give, number_at}
 use Rattle.ua_values.specs.Parts.{number, ◌followed_by◌, text, array, Begun, ChainCut, array_cut}
 use Rattle.ua_values.specs.Codec.{Reads, IsCodec}
@@ -14,7 +15,7 @@ use Rattle.ua_values.specs.Types.{boolean, signed, node_id, qualified_name, loca
 use Rattle.ua_values.specs.Written.{written_boolean, written_signed, written_text, written_node, written_qualified, written_localized, written_extension, written_array}
 use Rattle.ua_values.specs.Laws.{KeepsText, KeepsNode, KeepsQualified, KeepsLocalized, KeepsExtension, KeepsArray}
 use Rattle.ua_values.proofs.Chain.{reads}
-use Rattle.ua_values.proofs.Nesting.{array_reads}
+use Rattle.ua_values.proofs.Nesting.{list_reads}
 use Rattle.ua_values.proofs.TypeCodecs.{byte_codec, number32_codec, number64_codec, boolean_codec, text_codec, node_codec, qualified_codec, localized_codec, extension_codec}
 use Rattle.ua_values.proofs.WrittenLemmas.{number1, number4, boolean_spelled, text_spelled, node_spelled, qualified_spelled, localized_spelled, extension_spelled, array_spelled}
 use Rattle.ua_variants.specs.declared.variant.Variant.{Variant}
@@ -26,7 +27,7 @@ use Rattle.ua_variants.specs.Spelling.{written_variant, written_data_value}
 use Rattle.ua_variants.specs.Keeps.{KeepsVariant, KeepsDataValue}
 use Rattle.ua_variants.proofs.Codecs.{diagnostic_reads, reads_both}
 use Rattle.ua_variants.proofs.Spelled.{diagnostic_spelled, spelled_both}
-use Rattle.ua_structures.specs.Fitting.{number8, int32_codec, int64_codec, int32_spelled, int64_spelled, pair_reads, pair_spelled, record_reads, most_items, unused_reads}
+use Rattle.ua_structures.specs.Fitting.{number8, int32_codec, int64_codec, int32_spelled, int64_spelled, pair_reads, pair_spelled, record_reads, unused_reads}
 
 pub record Form (A : Type 0) : Type 1 where
   -- which bytes are a spelling of a value
@@ -156,11 +157,11 @@ structure fields parts make made parted = record {
 abbrev pub an_array : {A : Type 0} → Form A → Form (List A)
 an_array element = record {
   spells = array element.spells;
-  cut = array_cut 65536 element.spells element.cut;
+  cut = array_cut most_items element.spells element.cut;
   at = array_at element.at;
   written = written_array element.written;
   keeps = KeepsArray element.keeps;
-  reads = array_reads 65536 most_items element.spells element.cut element.at element.reads;
+  reads = list_reads element.spells element.cut element.at element.reads;
   spelled = array_spelled element.keeps element.spells element.written element.spelled;
 }
 
