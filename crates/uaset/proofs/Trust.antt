@@ -9,6 +9,7 @@ use Rattle.scenario.specs.declared.fault.ScenarioFault.{ScenarioFault}
 use Rattle.scenario.specs.Scenario.{scenario_of}
 use Rattle.scenario.proofs.ValidLemmas.{valid_lines}
 use Rattle.direct_world.proofs.Law.{world_changes, world_safe, world_in_order, world_caused}
+use Rattle.direct_world.proofs.Plainness.{world_plain}
 use Rattle.uaset.specs.Answer.{answer_of, answer_by, client_log, size_of}
 use Rattle.uaset.specs.declared.words.Command.TheVariants as command
 use Rattle.uaset.specs.Commands.{IsTrustworthy, Means}
@@ -27,13 +28,14 @@ trustworthy pool bytes lines h =
     let valid = valid_lines pool bytes lines h in
     let size = size_of lines in
     let two : 2 ≤ size.queue = (queue_fits pool bytes lines h).0 in
-    let source = world_changes size.servers size.items size.queue lines valid.source valid.few_changes in
+    let source = world_changes size.servers size.items size.oldest size.queue lines valid.source valid.few_changes in
     let P : List Change → Type 0 = λ s. Safe s (client_log lines) in
     let Q : List Change → Type 0 = λ s. InOrder s (client_log lines) in
     record {
-      safe = subst P source (world_safe size.servers size.items size.queue lines two);
-      order = subst Q source (world_in_order size.servers size.items size.queue lines two);
-      caused = world_caused size.servers size.items size.queue lines two;
+      safe = subst P source (world_safe size.servers size.items size.oldest size.queue lines two);
+      order = subst Q source (world_in_order size.servers size.items size.oldest size.queue lines two);
+      caused = world_caused size.servers size.items size.oldest size.queue lines two;
+      plain = world_plain size.servers size.items size.oldest size.queue lines two;
     }
 
 ok_is : (report text : List ℕ) → ◌≡◌ {A = Result (List ℕ) ScenarioFault} (Ok report) (Ok text) → text ≡ report

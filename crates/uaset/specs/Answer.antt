@@ -1,5 +1,5 @@
 -- What `replay` answers of its input: the report of the world over the scenario's lines.
-use Rattle.std.specs.Prelude.{◌≡◌, ℕ, List, ◌∷◌, Result, Ok, Err}
+use Rattle.std.specs.Prelude.{◌≡◌, ℕ, List, ◌∷◌, Bool, true, Result, Ok, Err}
 use Rattle.set_model.specs.declared.line.LogLine.{LogLine}
 use Rattle.set_model.specs.Report.{report_text}
 use Rattle.delivery_log.specs.History.{Act}
@@ -10,21 +10,23 @@ use Rattle.scenario.specs.declared.fault.ReadError.{ReadError}
 use Rattle.scenario.specs.declared.fault.ReadError.TheVariants as errors
 use Rattle.scenario.specs.Scenario.{scenario_of}
 use Rattle.direct_world.specs.State.{WorldState}
-use Rattle.direct_world.specs.World.{after_all, new_world}
+use Rattle.direct_world.specs.World as world
 use Rattle.direct_world.specs.History.{history_of}
 
--- how wide the set is
+-- how wide the set is, and whether a full queue of it discards its oldest entry or its newest
 pub record Size : Type 0 where
   pub servers : ℕ
   pub items : ℕ
   pub queue : ℕ
+  pub oldest : Bool
 
 -- of lines that say nothing of a set
 abbrev pub no_size : Size
-no_size = record { servers = 0; items = 0; queue = 2 }
+no_size = record { servers = 0; items = 0; queue = 2; oldest = true }
 
 abbrev pub size_with : ℕ → Line → Size
-size_with servers (line.Items items queue) = record { servers = servers; items = items; queue = queue }
+size_with servers (line.Items items queue oldest) =
+    record { servers = servers; items = items; queue = queue; oldest = oldest }
 size_with servers _ = no_size
 
 abbrev pub size_after : Line → Line → Size
@@ -38,7 +40,7 @@ size_of _ = no_size
 
 -- the world at the end of a scenario's lines
 abbrev pub world_of : List Line → WorldState
-world_of lines = after_all lines (new_world (size_of lines).servers (size_of lines).items (size_of lines).queue)
+world_of lines = let size = size_of lines in world.world_of size.servers size.items size.oldest size.queue lines
 
 -- the client's log at the end of a scenario's lines
 abbrev pub client_log : List Line → List LogLine
@@ -46,7 +48,7 @@ client_log lines = (world_of lines).log.lines
 
 -- what happened to that log
 abbrev pub past_of : List Line → List Act
-past_of lines = history_of (size_of lines).servers (size_of lines).items (size_of lines).queue lines
+past_of lines = let size = size_of lines in history_of size.servers size.items size.oldest size.queue lines
 
 abbrev pub answer_by : Result (List Line) ScenarioFault → Result (List ℕ) ScenarioFault
 answer_by (Ok lines) = Ok (report_text (client_log lines))

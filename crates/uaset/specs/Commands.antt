@@ -1,5 +1,5 @@
 -- What each command answers of its whole input, and what that means.
-use Rattle.std.specs.Prelude.{◌≡◌, ℕ, List, None, Result, Ok, Err}
+use Rattle.std.specs.Prelude.{◌≡◌, ℕ, List, All, None, Result, Ok, Err}
 use Rattle.delivery_log.specs.Caused.{Caused}
 use Rattle.delivery_log.specs.Safe.{InOrder, Safe}
 use Rattle.set_model.specs.Report.{report_text}
@@ -7,6 +7,7 @@ use Rattle.scenario.specs.declared.line.Line.{Line}
 use Rattle.scenario.specs.declared.fault.ScenarioFault.{ScenarioFault}
 use Rattle.scenario.specs.Past.{changes_in}
 use Rattle.scenario.specs.Scenario.{scenario_of}
+use Rattle.direct_world.specs.Plain.{IsPlain}
 use Rattle.ua_variants.specs.declared.variant.Variant.{Variant}
 use Rattle.ua_variants.specs.declared.variant.Stamped.{Stamped}
 use Rattle.ua_variants.specs.Grammar.{data_value}
@@ -52,10 +53,14 @@ pub record IsTrustworthy (lines : List Line) : Type 0 where
   pub safe : Safe (changes_in lines) (client_log lines)
   pub order : InOrder (changes_in lines) (client_log lines)
   pub caused : Caused (past_of lines) (client_log lines)
+  pub plain : All IsPlain (client_log lines)
 
--- the text is the report of a log that can be trusted; or what the one value holds that the whole input spells; or a line
--- for each of the frames that the input begins with, as many as there are, and how many bytes follow
+-- the text is the report of a log that can be trusted; or what the one value holds that the whole input spells; or a
+-- line for each of the frames that the input begins with, as many as there are, and how many bytes follow
 abbrev pub Means : Command → List ℕ → List ℕ → Type 0
-Means command.Replay bytes text = (lines : List Line) × (scenario_of 0 bytes ≡ Ok lines) × (text ≡ report_text (client_log lines)) × IsTrustworthy lines
+Means command.Replay bytes text =
+    (lines : List Line) × (scenario_of 0 bytes ≡ Ok lines) × (text ≡ report_text (client_log lines))
+    × IsTrustworthy lines
 Means command.ShowValue bytes text = (d : Stamped Variant) × data_value 101 d bytes × (text ≡ value_text d)
-Means command.ShowStream bytes text = (split : Split) × IsFramed 0 bytes split × (fault_of split.rest ≡ None) × (text ≡ stream_text split)
+Means command.ShowStream bytes text =
+    (split : Split) × IsFramed 0 bytes split × (fault_of split.rest ≡ None) × (text ≡ stream_text split)

@@ -8,23 +8,28 @@ use Rattle.uaset.specs.declared.status.Status.TheVariants as status
 use Rattle.uaset.specs.Commands.{answer_to, Means}
 use Rattle.uaset.specs.Edges.{HasAppended, HasAppendedFront}
 
--- the whole answer to the input was written, where both are told
+-- these bytes are the input, where it is told
+abbrev pub IsInput : Option (List ℕ) → List ℕ → Type 0
+IsInput input bytes = IfSome input (λ told. told ≡ bytes)
+
+-- the whole answer to an input was written, where that is told
 abbrev pub Answers : Command → Option (List ℕ) → Option (List ℕ) → Option (List ℕ) → Type 0
 Answers c input before after =
-    IfSome input (λ bytes. (text : List ℕ) × (answer_to c bytes ≡ Ok text) × HasAppended before after text)
+    (bytes text : List ℕ) × IsInput input bytes × (answer_to c bytes ≡ Ok text) × HasAppended before after text
 
--- a front of the answer to the input was written, where both are told
+-- a front of the answer to an input was written, where that is told
 abbrev pub AnswersInPart : Command → Option (List ℕ) → Option (List ℕ) → Option (List ℕ) → Type 0
 AnswersInPart c input before after =
-    IfSome input (λ bytes. (text : List ℕ) × (answer_to c bytes ≡ Ok text) × HasAppendedFront before after text)
+    (bytes text : List ℕ) × IsInput input bytes × (answer_to c bytes ≡ Ok text) × HasAppendedFront before after text
 
--- what was written is what the command promises of the input, where both are told
+-- what was written, where that is told, is what the command promises of an input
 abbrev pub KeepsPromise : Command → Option (List ℕ) → Option (List ℕ) → Option (List ℕ) → Type 0
-KeepsPromise c input before after = IfSome input (λ bytes. (text : List ℕ) × Means c bytes text × HasAppended before after text)
+KeepsPromise c input before after =
+    (bytes text : List ℕ) × IsInput input bytes × Means c bytes text × HasAppended before after text
 
--- the input is refused for this, where it is told
+-- an input is refused for this
 abbrev pub IsRefused : Command → Refusal → Option (List ℕ) → Type 0
-IsRefused c r input = IfSome input (λ bytes. answer_to c bytes ≡ Err r)
+IsRefused c r input = (bytes : List ℕ) × IsInput input bytes × (answer_to c bytes ≡ Err r)
 
 -- the status that tells of a refusal
 abbrev pub status_after : Refusal → Status

@@ -3,7 +3,6 @@ use Rattle.std.specs.Prelude.{ℕ, List, [], ◌∷◌, Result, Ok, Err, codes, 
 use Rattle.std.specs.Str.{bytes_eq}
 use Rattle.uaset.specs.declared.words.Command.{Command}
 use Rattle.uaset.specs.declared.words.Command.TheVariants as command
-use Rattle.uaset.specs.declared.words.TheConstants.{MOST_SCENARIO_BYTES, MOST_SHOWN_BYTES}
 
 -- the command, where no word follows it; the next one stands at a place
 abbrev pub only : Command → ℕ → List (List ℕ) → Result Command ℕ
@@ -25,7 +24,8 @@ command_of (word ∷ words) =
     else if bytes_eq word (codes "show") then show_of words
     else Err 0
 
+-- how many bytes a command reads: 64 MiB of a scenario, 1 MiB of what is shown
 abbrev pub most_bytes : Command → ℕ
-most_bytes command.Replay = MOST_SCENARIO_BYTES
-most_bytes command.ShowValue = MOST_SHOWN_BYTES
-most_bytes command.ShowStream = MOST_SHOWN_BYTES
+most_bytes command.Replay = 67108864
+most_bytes command.ShowValue = 1048576
+most_bytes command.ShowStream = 1048576

@@ -15,25 +15,30 @@ use crate::writing::{WriteStop, write_all};
 use std::alloc::Global;
 use ua_edge::{Sink, Source};
 
-/// Reads the input to its end and writes what the command answers of it. Nothing is written before the whole answer is known.
+/// Reads the input to its end and writes what the command answers of it. Nothing is written before the whole answer is
+/// known.
 pub fn run<I: Source, O: Sink>(
     alloc: Global,
     words: &[&str],
     input: &mut I,
     output: &mut O,
 ) -> Status
-    ensures usage { (place : ℕ) → (result ≡ Status.Usage place) ↔ (command_of (map (λ w. w.now) words.now) ≡ Err place) }
+    ensures usage { (place : ℕ)
+        → (result ≡ Status.Usage place) ↔ (command_of (map (λ w. w.now) words.now) ≡ Err place) }
     ensures ok { (c : Command) → command_of (map (λ w. w.now) words.now) ≡ Ok c → result ≡ Status.Ok
         → Answers c (I.left input.old) (O.written output.old) (O.written output.new) }
     ensures means { (c : Command) → command_of (map (λ w. w.now) words.now) ≡ Ok c → result ≡ Status.Ok
         → KeepsPromise c (I.left input.old) (O.written output.old) (O.written output.new) }
-    ensures scenario { (c : Command) (line : ℕ) (kind : FaultKind) → command_of (map (λ w. w.now) words.now) ≡ Ok c → result ≡ Status.Scenario line kind
+    ensures scenario { (c : Command) (line : ℕ) (kind : FaultKind) → command_of (map (λ w. w.now) words.now) ≡ Ok c
+        → result ≡ Status.Scenario line kind
         → IsRefused c (refusals.Scenario line kind) (I.left input.old) }
-    ensures show { (c : Command) (place code : ℕ) → command_of (map (λ w. w.now) words.now) ≡ Ok c → result ≡ Status.Show place code
+    ensures show { (c : Command) (place code : ℕ) → command_of (map (λ w. w.now) words.now) ≡ Ok c
+        → result ≡ Status.Show place code
         → IsRefused c (refusals.Show place code) (I.left input.old) }
     ensures read { result ≡ Status.ReadFault → Rose (I.faults input.old) (I.faults input.new) }
     ensures write { result ≡ Status.WriteFault → Rose (O.faults output.old) (O.faults output.new) }
-    ensures long { (c : Command) (bytes : ℕ) → command_of (map (λ w. w.now) words.now) ≡ Ok c → result ≡ Status.TooLong bytes
+    ensures long { (c : Command) (bytes : ℕ) → command_of (map (λ w. w.now) words.now) ≡ Ok c
+        → result ≡ Status.TooLong bytes
         → (bytes ≡ most_bytes c + 1) × HadMore (I.left input.old) (most_bytes c) }
     ensures part { (c : Command) → command_of (map (λ w. w.now) words.now) ≡ Ok c → result ≡ Status.WriteFault
         → AnswersInPart c (I.left input.old) (O.written output.old) (O.written output.new) }
@@ -44,14 +49,17 @@ pub fn run<I: Source, O: Sink>(
     ensures drained { IsDrained result (I.left input.old) (I.left input.new) }
 
     // What comes where no fault is counted, or want of memory.
-    ensures completes { (c : Command) (bytes text : List ℕ) → command_of (map (λ w. w.now) words.now) ≡ Ok c → I.left input.old ≡ Some bytes
-        → length bytes ≤ most_bytes c → answer_to c bytes ≡ Ok text → ¬ Rose (I.faults input.old) (I.faults input.new)
+    ensures completes { (c : Command) (bytes text : List ℕ) → command_of (map (λ w. w.now) words.now) ≡ Ok c
+        → I.left input.old ≡ Some bytes → length bytes ≤ most_bytes c → answer_to c bytes ≡ Ok text
+        → ¬ Rose (I.faults input.old) (I.faults input.new)
         → ¬ Rose (O.faults output.old) (O.faults output.new) → (result ≡ Status.Ok) ⊎ (result ≡ Status.Memory) }
-    ensures refuses { (c : Command) (bytes : List ℕ) (refusal : Refusal) → command_of (map (λ w. w.now) words.now) ≡ Ok c → I.left input.old ≡ Some bytes
-        → length bytes ≤ most_bytes c → answer_to c bytes ≡ Err refusal → ¬ Rose (I.faults input.old) (I.faults input.new)
+    ensures refuses { (c : Command) (bytes : List ℕ) (refusal : Refusal)
+        → command_of (map (λ w. w.now) words.now) ≡ Ok c
+        → I.left input.old ≡ Some bytes → length bytes ≤ most_bytes c → answer_to c bytes ≡ Err refusal
+        → ¬ Rose (I.faults input.old) (I.faults input.new)
         → (result ≡ status_after refusal) ⊎ (result ≡ Status.Memory) }
-    ensures ends_early { (c : Command) (bytes : List ℕ) → command_of (map (λ w. w.now) words.now) ≡ Ok c → I.left input.old ≡ Some bytes
-        → most_bytes c < length bytes → ¬ Rose (I.faults input.old) (I.faults input.new)
+    ensures ends_early { (c : Command) (bytes : List ℕ) → command_of (map (λ w. w.now) words.now) ≡ Ok c
+        → I.left input.old ≡ Some bytes → most_bytes c < length bytes → ¬ Rose (I.faults input.old) (I.faults input.new)
         → (result ≡ Status.TooLong (most_bytes c + 1)) ⊎ (result ≡ Status.Memory) }
 {
     let command = match Command::of(words) {

@@ -14,68 +14,64 @@ mod writing;
 
 use command::run;
 use status::{Status, code_of, words_of};
-use std::env::Env;
+use std::env::{Env, FillError};
 use std::process::ExitCode;
-use std::{env, io};
+use std::{io, str};
+use ua_base::OutOfMemory;
 use ua_edge::{ReadSource, WriteSink};
 
+/// The longest word of a command has six bytes.
+const MOST_WORD: usize = 16;
+
+/// The word that these bytes are. What is no text is the empty word, which is no word of a command either.
+fn word_of(rt: &HostRuntime, bytes: &[u8]) -> Result<String, OutOfMemory> {
+    match str::from_utf8(bytes) {
+        Ok(text) => Ok(String::from_str(rt.alloc(), text)?),
+        Err(_) => Ok(String::new(rt.alloc())),
+    }
+}
+
+/// The program's argument at a place, if there is one. What is longer than any word of a command is the empty word.
+fn word_at(rt: &HostRuntime, place: usize) -> Result<Option<String>, OutOfMemory> {
+    let mut word = [0u8; MOST_WORD];
+    match rt.arg(place, &mut word) {
+        Ok(count) => Ok(Some(word_of(rt, &word[..count])?)),
+        Err(FillError::TooLong) => Ok(Some(String::new(rt.alloc()))),
+        Err(FillError::NotPresent) => Ok(None),
+    }
+}
+
+/// The program's arguments. Its name, which stands before them, may be any bytes.
+fn arguments(rt: &HostRuntime) -> Result<Vec<String>, OutOfMemory> {
+    let mut words = Vec::new(rt.alloc());
+    for place in 1..usize::MAX {
+        match word_at(rt, place)? {
+            Some(word) => words.push(word)?,
+            None => break,
+        }
+    }
+    Ok(words)
+}
+
 /// Runs the command of these words over standard input and output.
-fn run_words(rt: &HostRuntime, arguments: &[String]) -> Status {
+fn run_words(rt: &HostRuntime, arguments: &[String]) -> Result<Status, OutOfMemory> {
     let mut words = Vec::new(rt.alloc());
     for argument in arguments {
-        if words.push(argument.as_str()).is_err() {
-            return Status::Memory;
-        }
+        words.push(argument.as_str())?;
     }
     let mut input = ReadSource::new(rt.reader());
     let mut output = WriteSink::new(io::writer(rt));
-    run(rt.alloc(), words.as_slice(), &mut input, &mut output)
+    Ok(run(rt.alloc(), words.as_slice(), &mut input, &mut output))
 }
 
-/// Whether the program's argument at a place is this word.
-fn is_word(rt: &HostRuntime, place: usize, text: &[u8]) -> bool {
-    let mut word = [0u8; 16];
-    match rt.arg(place, &mut word) {
-        Ok(count) => &word[..count] == text,
-        Err(_) => false,
-    }
-}
-
-/// The place of the first word that fits no command, where some word is no UTF-8: such a word fits none.
-fn place_of_faulty(rt: &HostRuntime) -> usize {
-    if is_word(rt, 1, b"replay") {
-        1
-    } else if !is_word(rt, 1, b"show") {
-        0
-    } else if is_word(rt, 2, b"value") || is_word(rt, 2, b"stream") {
-        2
-    } else {
-        1
-    }
-}
-
-/// Runs the command of the program's arguments. One that is no UTF-8 makes a faulty command line.
-fn run_arguments(rt: &HostRuntime) -> Status {
-    let arguments = match env::args(rt) {
-        Ok(arguments) => arguments,
-        Err(error) if error.kind() == io::ErrorKind::OutOfMemory => return Status::Memory,
-        Err(_) => {
-            return Status::Usage {
-                place: place_of_faulty(rt),
-            };
-        }
-    };
-    let mut words = Vec::new(rt.alloc());
-    for argument in arguments.skip(1) {
-        if words.push(argument).is_err() {
-            return Status::Memory;
-        }
-    }
+/// Runs the command of the program's arguments.
+fn run_arguments(rt: &HostRuntime) -> Result<Status, OutOfMemory> {
+    let words = arguments(rt)?;
     run_words(rt, words.as_slice())
 }
 
 fn main(rt: HostRuntime) -> ExitCode {
-    let status = run_arguments(&rt);
+    let status = run_arguments(&rt).unwrap_or(Status::Memory);
     if status != Status::Ok {
         match words_of(rt.alloc(), &status) {
             Ok(words) => {

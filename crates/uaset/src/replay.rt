@@ -9,29 +9,41 @@ use set_model::report_of;
 use std::alloc::Global;
 use ua_base::OutOfMemory;
 
-/// How wide a set is, as its first two lines say.
+/// How wide a set is, and which entry a full queue of it discards, as its first two lines say.
 #[derive(Clone, Copy, Debug, PartialEq, Eq)]
 struct Size {
     servers: u8,
     items: u8,
     queue: u32,
+    oldest: bool,
 }
 
 fn size_of(lines: &[Line]) -> Size
     ensures servers { result.servers ≡ (size_of lines.now).servers }
     ensures items { result.items ≡ (size_of lines.now).items }
     ensures queue { result.queue ≡ (size_of lines.now).queue }
+    ensures oldest { result.oldest ≡ (size_of lines.now).oldest }
 {
     match lines {
-        [Line::Set { servers, .. }, Line::Items { items, queue }, ..] => Size {
+        [
+            Line::Set { servers, .. },
+            Line::Items {
+                items,
+                queue,
+                oldest,
+            },
+            ..
+        ] => Size {
             servers: *servers,
             items: *items,
             queue: *queue,
+            oldest: *oldest,
         },
         _ => Size {
             servers: 0,
             items: 0,
             queue: 2,
+            oldest: true,
         },
     }
 }
@@ -53,7 +65,7 @@ fn report_lines(alloc: Global, lines: &[Line]) -> Result<Vec<u8>, OutOfMemory>
     ensures { IfOk result (λ text. text.items ≡ report_text (client_log lines.now)) }
 {
     let size = size_of(lines);
-    let mut world = World::new(alloc, size.servers, size.items, size.queue)?;
+    let mut world = World::new(alloc, size.servers, size.items, size.queue, size.oldest)?;
     run_lines(alloc, &mut world, lines)?;
     report_of(alloc, world.lines())
 }

@@ -35,5 +35,13 @@ pub returns-clause-nothing_missed : goal.returns-clause-nothing_missed
 unfolding digits
 returns-clause-nothing_missed c = refl
 
+pub returns-clause-picoseconds : goal.returns-clause-picoseconds
+unfolding digits
+returns-clause-picoseconds c = refl
+
+pub returns-clause-newest_discarded : goal.returns-clause-newest_discarded
+unfolding digits
+returns-clause-newest_discarded c = refl
+
 pub returns-clause-refused : goal.returns-clause-refused
 returns-clause-refused c = refl
