@@ -22,8 +22,9 @@ fn write_greeting(
     to: &mut Vec<u8>,
 ) -> Result<(), OutOfMemory> {
     match url.bytes() {
-        Some(bytes) if bytes.len() > MOST_URL => Ok(()),
-        _ => write_hello(alloc, greeting, url, to),
+        None => write_hello(alloc, greeting, url, to),
+        Some(bytes) if bytes.len() <= MOST_URL => write_hello(alloc, greeting, url, to),
+        Some(_) => Ok(()),
     }
 }
 

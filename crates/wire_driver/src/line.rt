@@ -2,7 +2,7 @@
 
 ghost use Rattle.std.specs.Prelude.{◌<◌, IfOk};
 
-use crate::digits::{bytes_of, number, put_bytes};
+use crate::digits::{bytes_of, number};
 use crate::elements::tell_within;
 use crate::frames::{tell_count, tell_cuts, tell_frames};
 use crate::fronts::tell_fronts;
@@ -96,20 +96,103 @@ fn copy_often(alloc: Global, count: u32, bytes: &[u8], to: &mut String) -> Resul
     Ok(())
 }
 
+/// Answers `stream`.
+fn answer_stream(
+    alloc: Global,
+    numbers: [&str; 3],
+    digits: &[&str],
+    to: &mut String,
+) -> Result<(), Stop> {
+    let [channel, token, cut] = numbers;
+    let channel = number(channel)?;
+    let token = number(token)?;
+    let cut = piece_of(cut)?;
+    let bytes = bytes_of(alloc, digits)?;
+    tell_stream(alloc, channel, token, cut, &bytes, to)?;
+    Ok(())
+}
+
+/// Answers `put`.
+fn answer_put(
+    alloc: Global,
+    numbers: [&str; 5],
+    steps: &[&str],
+    to: &mut String,
+) -> Result<(), Stop> {
+    let [channel, token, size, max_message, max_chunks] = numbers;
+    let numbers = [
+        number(channel)?,
+        number(token)?,
+        number(size)?,
+        number(max_message)?,
+        number(max_chunks)?,
+    ];
+    tell_puts(alloc, numbers, steps, to)
+}
+
+/// Answers `pass` so many times.
+fn answer_pass(
+    alloc: Global,
+    numbers: [&str; 3],
+    digits: &[&str],
+    to: &mut String,
+) -> Result<(), Stop> {
+    let [count, size, cut] = numbers;
+    let count = number(count)?;
+    let size = number(size)?;
+    let cut = piece_of(cut)?;
+    let bytes = bytes_of(alloc, digits)?;
+    pass_often(alloc, count, size, cut, &bytes, to)
+}
+
+/// Answers a line that is asked so many times.
+fn answer_repeated(
+    alloc: Global,
+    count: &str,
+    verb: &str,
+    name: &str,
+    digits: &[&str],
+    to: &mut String,
+) -> Result<(), Stop> {
+    let count = number(count)?;
+    let bytes = bytes_of(alloc, digits)?;
+    answer_often(alloc, count, verb, name, &bytes, to)
+}
+
+/// Copies the bytes so many times.
+fn answer_copied(alloc: Global, count: &str, digits: &[&str], to: &mut String) -> Result<(), Stop> {
+    let count = number(count)?;
+    let bytes = bytes_of(alloc, digits)?;
+    copy_often(alloc, count, &bytes, to)
+}
+
+/// Answers `cuts`.
+fn answer_cuts(alloc: Global, digits: &[&str], to: &mut String) -> Result<(), Stop> {
+    let bytes = bytes_of(alloc, digits)?;
+    tell_cuts(alloc, &bytes, to)?;
+    Ok(())
+}
+
+/// Answers what is asked of bytes once.
+fn answer_once(
+    alloc: Global,
+    verb: &str,
+    name: &str,
+    digits: &[&str],
+    to: &mut String,
+) -> Result<(), Stop> {
+    let bytes = bytes_of(alloc, digits)?;
+    answer_bytes(alloc, verb, name, &bytes, to)
+}
+
 /// Answers a line of these words.
 pub fn answer(alloc: Global, words: &[&str], to: &mut String) -> Result<(), Stop> {
     match words {
-        ["cuts", digits @ ..] => Ok(tell_cuts(alloc, &bytes_of(alloc, digits)?, to)?),
-        ["bytes", digits @ ..] => Ok(put_bytes(alloc, &bytes_of(alloc, digits)?, to)?),
+        ["cuts", digits @ ..] => answer_cuts(alloc, digits, to),
         ["kind", id] => tell_kind(alloc, id, to),
-        ["stream", channel, token, cut, digits @ ..] => Ok(tell_stream(
-            alloc,
-            number(channel)?,
-            number(token)?,
-            piece_of(cut)?,
-            &bytes_of(alloc, digits)?,
-            to,
-        )?),
+        ["stream", channel, token, cut, digits @ ..] => {
+            answer_stream(alloc, [channel, token, cut], digits, to)
+        }
         ["take", channel, token, steps @ ..] => {
             tell_steps(alloc, number(channel)?, number(token)?, steps, to)
         }
@@ -121,38 +204,20 @@ pub fn answer(alloc: Global, words: &[&str], to: &mut String) -> Result<(), Stop
             max_message,
             max_chunks,
             steps @ ..,
-        ] => {
-            let numbers = [
-                number(channel)?,
-                number(token)?,
-                number(size)?,
-                number(max_message)?,
-                number(max_chunks)?,
-            ];
-            tell_puts(alloc, numbers, steps, to)
-        }
-        ["repeat", count, "pass", size, cut, digits @ ..] => pass_often(
+        ] => answer_put(
             alloc,
-            number(count)?,
-            number(size)?,
-            piece_of(cut)?,
-            &bytes_of(alloc, digits)?,
+            [channel, token, size, max_message, max_chunks],
+            steps,
             to,
         ),
-        ["repeat", count, "copied", digits @ ..] => {
-            copy_often(alloc, number(count)?, &bytes_of(alloc, digits)?, to)
+        ["repeat", count, "pass", size, cut, digits @ ..] => {
+            answer_pass(alloc, [count, size, cut], digits, to)
         }
-        ["repeat", count, verb, name, digits @ ..] => answer_often(
-            alloc,
-            number(count)?,
-            verb,
-            name,
-            &bytes_of(alloc, digits)?,
-            to,
-        ),
-        [verb, name, digits @ ..] => {
-            answer_bytes(alloc, verb, name, &bytes_of(alloc, digits)?, to)
+        ["repeat", count, "copied", digits @ ..] => answer_copied(alloc, count, digits, to),
+        ["repeat", count, verb, name, digits @ ..] => {
+            answer_repeated(alloc, count, verb, name, digits, to)
         }
+        [verb, name, digits @ ..] => answer_once(alloc, verb, name, digits, to),
         _ => Err(Stop::BadLine),
     }
 }
