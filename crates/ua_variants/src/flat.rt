@@ -2,6 +2,7 @@
 
 ghost use Rattle.std.specs.Prelude.{◌≡◌, ◌++◌, OnOk};
 ghost use Rattle.ua_values.specs.Reading.{Moves};
+ghost use Rattle.ua_values.specs.Readers.{array_at};
 ghost use Rattle.ua_variants.specs.Reader.{scalar_at, flat_array_at};
 ghost use Rattle.ua_variants.specs.Spelling.{flat_of, flat_of_array, written_scalar, written_flat_array};
 
@@ -10,41 +11,58 @@ use sqlite_items::Items;
 use std::alloc::Global;
 use ua_base::OutOfMemory;
 use ua_values::{
-    Cursor, ValueFault, put_array, put_expanded_node_id, put_extension_object, put_localized_text,
-    put_node_id, put_qualified_name, read_array, write_boolean, write_byte, write_byte_string,
-    write_date_time, write_double, write_float, write_guid, write_int16, write_int32, write_int64,
-    write_sbyte, write_status_code, write_string, write_uint16, write_uint32, write_uint64,
-    write_xml_element,
+    Cursor, Element, ValueFault, put_array, put_expanded_node_id, put_extension_object,
+    put_localized_text, put_node_id, put_qualified_name, read_array, write_boolean, write_byte,
+    write_byte_string, write_date_time, write_double, write_float, write_guid, write_int16,
+    write_int32, write_int64, write_sbyte, write_status_code, write_string, write_uint16,
+    write_uint32, write_uint64, write_xml_element,
 };
+
+/// What was read, made into a value by a variant. A `?` in its place would call functions at the value's whole type at each use.
+macro_rules! made {
+    ($make:path, $read:expr) => {
+        match $read {
+            Ok(value) => Ok($make(value)),
+            Err(fault) => Err(fault),
+        }
+    };
+}
 
 /// One value of the type.
 pub(crate) fn scalar(alloc: Global, flat: Flat, from: &mut Cursor<'_>) -> Result<Scalar, ValueFault>
     ensures { Moves (λ s. s) result from.new (scalar_at flat from.old) }
 {
-    Ok(match flat {
-        Flat::Boolean => Scalar::Boolean(from.boolean()?),
-        Flat::SByte => Scalar::SByte(from.sbyte()?),
-        Flat::Byte => Scalar::Byte(from.byte()?),
-        Flat::Int16 => Scalar::Int16(from.int16()?),
-        Flat::UInt16 => Scalar::UInt16(from.uint16()?),
-        Flat::Int32 => Scalar::Int32(from.int32()?),
-        Flat::UInt32 => Scalar::UInt32(from.uint32()?),
-        Flat::Int64 => Scalar::Int64(from.int64()?),
-        Flat::UInt64 => Scalar::UInt64(from.uint64()?),
-        Flat::Float => Scalar::Float(from.uint32()?),
-        Flat::Double => Scalar::Double(from.uint64()?),
-        Flat::String => Scalar::String(from.text(alloc)?),
-        Flat::DateTime => Scalar::DateTime(from.int64()?),
-        Flat::Guid => Scalar::Guid(from.guid()?),
-        Flat::ByteString => Scalar::ByteString(from.byte_string(alloc)?),
-        Flat::XmlElement => Scalar::XmlElement(from.text(alloc)?),
-        Flat::NodeId => Scalar::NodeId(from.node_id(alloc)?),
-        Flat::ExpandedNodeId => Scalar::ExpandedNodeId(from.expanded_node_id(alloc)?),
-        Flat::StatusCode => Scalar::StatusCode(from.uint32()?),
-        Flat::QualifiedName => Scalar::QualifiedName(from.qualified_name(alloc)?),
-        Flat::LocalizedText => Scalar::LocalizedText(from.localized_text(alloc)?),
-        Flat::ExtensionObject => Scalar::ExtensionObject(from.extension_object(alloc)?),
-    })
+    match flat {
+        Flat::Boolean => made!(Scalar::Boolean, from.boolean()),
+        Flat::SByte => made!(Scalar::SByte, from.sbyte()),
+        Flat::Byte => made!(Scalar::Byte, from.byte()),
+        Flat::Int16 => made!(Scalar::Int16, from.int16()),
+        Flat::UInt16 => made!(Scalar::UInt16, from.uint16()),
+        Flat::Int32 => made!(Scalar::Int32, from.int32()),
+        Flat::UInt32 => made!(Scalar::UInt32, from.uint32()),
+        Flat::Int64 => made!(Scalar::Int64, from.int64()),
+        Flat::UInt64 => made!(Scalar::UInt64, from.uint64()),
+        Flat::Float => made!(Scalar::Float, from.uint32()),
+        Flat::Double => made!(Scalar::Double, from.uint64()),
+        Flat::String => made!(Scalar::String, from.text(alloc)),
+        Flat::DateTime => made!(Scalar::DateTime, from.int64()),
+        Flat::Guid => made!(Scalar::Guid, from.guid()),
+        Flat::ByteString => made!(Scalar::ByteString, from.byte_string(alloc)),
+        Flat::XmlElement => made!(Scalar::XmlElement, from.text(alloc)),
+        Flat::NodeId => made!(Scalar::NodeId, from.node_id(alloc)),
+        Flat::ExpandedNodeId => made!(Scalar::ExpandedNodeId, from.expanded_node_id(alloc)),
+        Flat::StatusCode => made!(Scalar::StatusCode, from.uint32()),
+        Flat::QualifiedName => made!(Scalar::QualifiedName, from.qualified_name(alloc)),
+        Flat::LocalizedText => made!(Scalar::LocalizedText, from.localized_text(alloc)),
+        Flat::ExtensionObject => made!(Scalar::ExtensionObject, from.extension_object(alloc)),
+    }
+}
+
+/// An array's elements.
+fn items<T: Element>(alloc: Global, from: &mut Cursor<'_>) -> Result<Items<T>, ValueFault>
+    ensures { Moves (λ items. items) result from.new (array_at T.at from.old) }
+{
+    Ok(Items::from_vec(read_array(alloc, from)?))
 }
 
 /// An array of values of the type.
@@ -55,30 +73,30 @@ pub(crate) fn flat_array(
 ) -> Result<Array, ValueFault>
     ensures { Moves (λ a. a) result from.new (flat_array_at flat from.old) }
 {
-    Ok(match flat {
-        Flat::Boolean => Array::Boolean(Items::from_vec(read_array(alloc, from)?)),
-        Flat::SByte => Array::SByte(Items::from_vec(read_array(alloc, from)?)),
-        Flat::Byte => Array::Byte(Items::from_vec(read_array(alloc, from)?)),
-        Flat::Int16 => Array::Int16(Items::from_vec(read_array(alloc, from)?)),
-        Flat::UInt16 => Array::UInt16(Items::from_vec(read_array(alloc, from)?)),
-        Flat::Int32 => Array::Int32(Items::from_vec(read_array(alloc, from)?)),
-        Flat::UInt32 => Array::UInt32(Items::from_vec(read_array(alloc, from)?)),
-        Flat::Int64 => Array::Int64(Items::from_vec(read_array(alloc, from)?)),
-        Flat::UInt64 => Array::UInt64(Items::from_vec(read_array(alloc, from)?)),
-        Flat::Float => Array::Float(Items::from_vec(read_array(alloc, from)?)),
-        Flat::Double => Array::Double(Items::from_vec(read_array(alloc, from)?)),
-        Flat::String => Array::String(Items::from_vec(read_array(alloc, from)?)),
-        Flat::DateTime => Array::DateTime(Items::from_vec(read_array(alloc, from)?)),
-        Flat::Guid => Array::Guid(Items::from_vec(read_array(alloc, from)?)),
-        Flat::ByteString => Array::ByteString(Items::from_vec(read_array(alloc, from)?)),
-        Flat::XmlElement => Array::XmlElement(Items::from_vec(read_array(alloc, from)?)),
-        Flat::NodeId => Array::NodeId(Items::from_vec(read_array(alloc, from)?)),
-        Flat::ExpandedNodeId => Array::ExpandedNodeId(Items::from_vec(read_array(alloc, from)?)),
-        Flat::StatusCode => Array::StatusCode(Items::from_vec(read_array(alloc, from)?)),
-        Flat::QualifiedName => Array::QualifiedName(Items::from_vec(read_array(alloc, from)?)),
-        Flat::LocalizedText => Array::LocalizedText(Items::from_vec(read_array(alloc, from)?)),
-        Flat::ExtensionObject => Array::ExtensionObject(Items::from_vec(read_array(alloc, from)?)),
-    })
+    match flat {
+        Flat::Boolean => made!(Array::Boolean, items(alloc, from)),
+        Flat::SByte => made!(Array::SByte, items(alloc, from)),
+        Flat::Byte => made!(Array::Byte, items(alloc, from)),
+        Flat::Int16 => made!(Array::Int16, items(alloc, from)),
+        Flat::UInt16 => made!(Array::UInt16, items(alloc, from)),
+        Flat::Int32 => made!(Array::Int32, items(alloc, from)),
+        Flat::UInt32 => made!(Array::UInt32, items(alloc, from)),
+        Flat::Int64 => made!(Array::Int64, items(alloc, from)),
+        Flat::UInt64 => made!(Array::UInt64, items(alloc, from)),
+        Flat::Float => made!(Array::Float, items(alloc, from)),
+        Flat::Double => made!(Array::Double, items(alloc, from)),
+        Flat::String => made!(Array::String, items(alloc, from)),
+        Flat::DateTime => made!(Array::DateTime, items(alloc, from)),
+        Flat::Guid => made!(Array::Guid, items(alloc, from)),
+        Flat::ByteString => made!(Array::ByteString, items(alloc, from)),
+        Flat::XmlElement => made!(Array::XmlElement, items(alloc, from)),
+        Flat::NodeId => made!(Array::NodeId, items(alloc, from)),
+        Flat::ExpandedNodeId => made!(Array::ExpandedNodeId, items(alloc, from)),
+        Flat::StatusCode => made!(Array::StatusCode, items(alloc, from)),
+        Flat::QualifiedName => made!(Array::QualifiedName, items(alloc, from)),
+        Flat::LocalizedText => made!(Array::LocalizedText, items(alloc, from)),
+        Flat::ExtensionObject => made!(Array::ExtensionObject, items(alloc, from)),
+    }
 }
 
 impl Scalar {
