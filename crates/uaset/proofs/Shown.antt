@@ -1,5 +1,5 @@
 -- What the lines of a stream mean.
-use Rattle.std.proofs.Common.{◌≡◌, ℕ, List, Option, Some, None, Result, Ok, Err, refl}
+use Rattle.std.proofs.Common.{◌≡◌, ℕ, List, Option, Some, None, Result, Ok, refl}
 use Rattle.ua_chunks.specs.Frames.{Split, fault_of}
 use Rattle.ua_chunks.specs.Streams.{IsFramed}
 use Rattle.show.specs.Answer.{Refusal}

@@ -1,5 +1,5 @@
 -- The log of a scenario's lines can be trusted.
-use Rattle.std.proofs.Common.{◌≡◌, ℕ, ◌≤◌, List, Ok, Err, refl, sym, ap, subst, ◌∙◌, arith}
+use Rattle.std.proofs.Common.{◌≡◌, ℕ, ◌≤◌, List, Ok, Err, refl, ap, subst, arith}
 use Rattle.std.specs.Prelude.{Result}
 use Rattle.set_model.specs.declared.source.Change.{Change}
 use Rattle.set_model.specs.Report.{report_text}
