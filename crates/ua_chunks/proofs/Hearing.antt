@@ -22,7 +22,7 @@ use Rattle.ua_chunks.specs.Assembly.{Assembly, Leads, Tokens, after_frame, assem
 use Rattle.ua_chunks.specs.Bodies.{opn_head_at, opn_of, written_error, written_greeting, written_hello}
 use Rattle.ua_chunks.specs.Sending.{IsSending, Part, Sending, after_put, in_chunk, message_parts, opn_part, parts_bytes, parts_of, parts_up_to, stepped, whole_part}
 use Rattle.ua_chunks.specs.Arrival.{InStep, IsPut, Put, message_put, opn_put, placed}
-use Rattle.ua_chunks.specs.Traffic.{Action, AreAllowed, AwaitToken, CatchUp, Comes, Event, FramesBegin, Heard, HeardAck, HeardErr, HeardFault, HeardHello, HeardMessage, HeardOpn, IsAllowed, IsDeaf, NewLimits, RenewBoth, Renewal, Said, SendAck, SendErr, SendHello, SendMessage, SendOpn, action_events, action_parts, actions_bytes, after_action, after_actions, all_heard, all_tokens, events_of, frames_in, frames_put_by, heard, heard_by, heard_of, hearing, hears, message_heard, renewals_of, said, said_by, said_chunk, said_opn, tokens_after}
+use Rattle.ua_chunks.specs.Traffic.{Action, AreAllowed, AwaitToken, CatchUp, Comes, Event, FramesBegin, Heard, HeardAck, HeardErr, HeardFault, HeardHello, HeardMessage, HeardOpn, IsAllowed, IsDeaf, NewLimits, RenewBoth, Renewal, Said, SendAck, SendErr, SendHello, SendMessage, SendOpn, SendRenewing, action_events, action_parts, actions_bytes, after_action, after_actions, all_heard, all_tokens, events_of, frames_in, frames_put_by, heard, heard_by, heard_of, hearing, hears, message_heard, renewals_of, said, said_by, said_chunk, said_opn, tokens_after}
 use Rattle.ua_chunks.proofs.BodyLaws.{ack_alone, err_alone, hello_alone, opn_again}
 use Rattle.ua_chunks.proofs.Chunking.{last_by, more_by}
 use Rattle.ua_chunks.proofs.Arriving.{frame_in}
@@ -193,6 +193,7 @@ action_fits (SendAck g) s t is may = (whole_small kind.Ack (written_greeting g) 
 action_fits (SendErr code) s t is may = (whole_small kind.Err (written_error code) (let long : length (written_error code) ≡ 8 = refl in omega (arith, long)), tt)
 action_fits (SendOpn request body) s t is may = (opn_small request body s may.1, tt)
 action_fits (SendMessage m) s t is may = parts_larger s.size (parts_of m.kind m.request m.body s) is.most (comes_new 0 m s is may).parts
+action_fits (SendRenewing channel token request body) s t is may = (opn_small request body (record s { channel = channel; token = token }) may.3, tt)
 action_fits (NewLimits size max_message max_chunks) s t is may = tt
 action_fits (RenewBoth channel token) s t is may = tt
 action_fits (AwaitToken token) s t is may = tt
@@ -204,6 +205,8 @@ action_sends (SendAck g) s t is may = is
 action_sends (SendErr code) s t is may = is
 action_sends (SendOpn request body) s t is may = put_sends kind.Opn request body s is
 action_sends (SendMessage m) s t is may = put_sends m.kind m.request m.body s is
+action_sends (SendRenewing channel token request body) s t is may =
+    put_sends kind.Opn request body (record s { channel = channel; token = token }) (renewed_sends channel token s is may.0 may.1)
 action_sends (NewLimits size max_message max_chunks) s t is may = limits_send size max_message max_chunks s is may
 action_sends (RenewBoth channel token) s t is may = renewed_sends channel token s is may.0 may.1
 action_sends (AwaitToken token) s t is may = is
@@ -244,6 +247,27 @@ renewal_says channel token a =
       ap (λ (x : List Heard × Assembly). x.1) same,
     )
 
+renewing_goes : (place channel token request : ℕ) (body : List ℕ) (s : Sending) (a : Assembly) → IsSending s → InStep s a
+    → IsAllowed (SendRenewing channel token request body) s (tokens_of a) → Goes place (SendRenewing channel token request body) s a
+renewing_goes place channel token request body s a sends step may =
+    let t : Sending = record s { channel = channel; token = token } in
+    let b : Assembly = with_number s.next a in
+    let first = Comes (frame_in place (opn_part request body t)) ∷ [] in
+    let second = Renewal channel token ∷ [] in
+    let told = HeardOpn (opn_put request body t) ∷ [] in
+    let w = says (frame_in place (opn_part request body t)) a told b step.fault (opn_says request body t a (renewed_sends channel token s sends may.0 may.1) may.2 step.number) in
+    let r = renewal_says channel token b in
+    let state = hearing_append first second a ∙ ap (hearing second) w.state ∙ r.1 in
+    record {
+      heard_is = heard_append first second a
+          ∙ ap (λ hs. hs ++ heard second (hearing first a)) w.heard_is
+          ∙ ap (λ c. told ++ heard second c) w.state
+          ∙ ap (λ hs. told ++ hs) r.0;
+      in_step = subst (InStep (after_put kind.Opn request body t)) (sym state)
+          (both_renewed channel token (after_put kind.Opn request body s) b (opn_step request body s a step));
+      tokens = ap tokens_of state;
+    }
+
 goes : (place : ℕ) (x : Action) (s : Sending) (a : Assembly) → IsSending s → InStep s a → IsAllowed x s (tokens_of a) → Goes place x s a
 goes place (SendHello g url) s a sends step may =
     let w = whole_goes place kind.Hel (written_hello (g, url)) (HeardHello (g, url)) a step.fault (ap (λ r. said HeardHello r a) (hello_alone g url may.0)) in
@@ -258,6 +282,7 @@ goes place (SendOpn request body) s a sends step may =
     let w = says (frame_in place (opn_part request body s)) a (HeardOpn (opn_put request body s) ∷ []) (with_number s.next a) step.fault (opn_says request body s a sends may.0 step.number) in
     record { heard_is = w.heard_is; in_step = subst (InStep (after_put kind.Opn request body s)) (sym w.state) (opn_step request body s a step); tokens = ap tokens_of w.state }
 goes place (SendMessage m) s a sends step may = message_goes place m s a sends step may
+goes place (SendRenewing channel token request body) s a sends step may = renewing_goes place channel token request body s a sends step may
 goes place (NewLimits size max_message max_chunks) s a sends step may = record { heard_is = refl; in_step = limits_in_step size max_message max_chunks s a step; tokens = refl }
 goes place (RenewBoth channel token) s a sends step may =
     let r = renewal_says channel token a in
@@ -311,6 +336,7 @@ renewal_frames (SendAck g) s es = refl
 renewal_frames (SendErr code) s es = refl
 renewal_frames (SendOpn request body) s es = refl
 renewal_frames (SendMessage m) s es = refl
+renewal_frames (SendRenewing channel token request body) s es = refl
 renewal_frames (NewLimits size max_message max_chunks) s es = refl
 renewal_frames (RenewBoth channel token) s es = refl
 renewal_frames (AwaitToken token) s es = refl

@@ -65,7 +65,13 @@ greeting_at = do
   send ← number_at 4
   max_message ← number_at 4
   max_chunks ← number_at 4
-  give (record { version = version; receive = receive; send = send; max_message = max_message; max_chunks = max_chunks })
+  give (record {
+    version = version;
+    receive = receive;
+    send = send;
+    max_message = max_message;
+    max_chunks = max_chunks;
+  })
 
 abbrev pub hello_at : Reader (Greeting × Option (List ℕ))
 hello_at = do
@@ -93,7 +99,14 @@ opn_head_at = do
   thumbprint ← text_at
   number ← number_at 4
   request ← number_at 4
-  give (record { channel = channel; policy = p; certificate = certificate; thumbprint = thumbprint; number = number; request = request })
+  give (record {
+    channel = channel;
+    policy = p;
+    certificate = certificate;
+    thumbprint = thumbprint;
+    number = number;
+    request = request;
+  })
 
 -- nothing may be left
 abbrev pub ended : List ℕ → Reader (Unit {0})

@@ -19,15 +19,16 @@ use Rattle.ua_chunks.specs.Arrival.{IsPut, Put, message_put, opn_put, placed}
 
 -- ---- what an end does
 
--- it sends a HEL, an ACK, an ERR, an OPN, a MSG or a CLO; it learns the other end's limits; or a channel is renewed: by
--- both ends at once, by the hearing end, which awaits a token and takes the former one still, or by the sending end,
--- which then has what is awaited
+-- it sends a HEL, an ACK, an ERR, an OPN, a MSG or a CLO, or an OPN with a new channel and token, which both ends have
+-- from then on; it learns the other end's limits; or a channel is renewed: by both ends at once, by the hearing end,
+-- which awaits a token and takes the former one still, or by the sending end, which then has what is awaited
 pub data Action : Type 0 where
   SendHello : Greeting → Option (List ℕ) → Action
   SendAck : Greeting → Action
   SendErr : ℕ → Action
   SendOpn : ℕ → List ℕ → Action
   SendMessage : Put → Action
+  SendRenewing : ℕ → ℕ → ℕ → List ℕ → Action
   NewLimits : ℕ → ℕ → ℕ → Action
   RenewBoth : ℕ → ℕ → Action
   AwaitToken : ℕ → Action
@@ -40,6 +41,8 @@ action_parts (SendAck g) s = whole_part kind.Ack (written_greeting g) ∷ []
 action_parts (SendErr code) s = whole_part kind.Err (written_error code) ∷ []
 action_parts (SendOpn request body) s = parts_of kind.Opn request body s
 action_parts (SendMessage m) s = parts_of m.kind m.request m.body s
+action_parts (SendRenewing channel token request body) s =
+    parts_of kind.Opn request body (record s { channel = channel; token = token })
 action_parts (NewLimits size max_message max_chunks) s = []
 action_parts (RenewBoth channel token) s = []
 action_parts (AwaitToken token) s = []
@@ -51,6 +54,8 @@ after_action (SendAck g) s = s
 after_action (SendErr code) s = s
 after_action (SendOpn request body) s = after_put kind.Opn request body s
 after_action (SendMessage m) s = after_put m.kind m.request m.body s
+after_action (SendRenewing channel token request body) s =
+    after_put kind.Opn request body (record s { channel = channel; token = token })
 after_action (NewLimits size max_message max_chunks) s = with_limits size max_message max_chunks s
 after_action (RenewBoth channel token) s = record s { channel = channel; token = token }
 after_action (AwaitToken token) s = s
@@ -76,6 +81,7 @@ tokens_after (SendAck g) s t = t
 tokens_after (SendErr code) s t = t
 tokens_after (SendOpn request body) s t = t
 tokens_after (SendMessage m) s t = used s.token t
+tokens_after (SendRenewing channel token request body) s t = renewed_tokens channel token t
 tokens_after (NewLimits size max_message max_chunks) s t = t
 tokens_after (RenewBoth channel token) s t = renewed_tokens channel token t
 tokens_after (AwaitToken token) s t = renewed_tokens s.channel token t
@@ -87,6 +93,8 @@ IsAllowed (SendAck g) s t = KeepsGreeting g
 IsAllowed (SendErr code) s t = code < 2 ^ 32
 IsAllowed (SendOpn request body) s t = (request < 2 ^ 32) × (length body ≤ 4096)
 IsAllowed (SendMessage m) s t = IsPut m s
+IsAllowed (SendRenewing channel token request body) s t =
+    (channel < 2 ^ 32) × (token < 2 ^ 32) × (request < 2 ^ 32) × (length body ≤ 4096)
 IsAllowed (NewLimits size max_message max_chunks) s t = 8192 ≤ size
 IsAllowed (RenewBoth channel token) s t = (channel < 2 ^ 32) × (token < 2 ^ 32)
 IsAllowed (AwaitToken token) s t = s.token ≡ t.token
@@ -110,6 +118,7 @@ renewals_of (SendAck g) s = []
 renewals_of (SendErr code) s = []
 renewals_of (SendOpn request body) s = []
 renewals_of (SendMessage m) s = []
+renewals_of (SendRenewing channel token request body) s = Renewal channel token ∷ []
 renewals_of (NewLimits size max_message max_chunks) s = []
 renewals_of (RenewBoth channel token) s = Renewal channel token ∷ []
 renewals_of (AwaitToken token) s = Renewal s.channel token ∷ []
@@ -208,6 +217,8 @@ heard_of (SendAck g) s = HeardAck g ∷ []
 heard_of (SendErr code) s = HeardErr code ∷ []
 heard_of (SendOpn request body) s = HeardOpn (opn_put request body s) ∷ []
 heard_of (SendMessage m) s = HeardMessage m.kind (message_put m) ∷ []
+heard_of (SendRenewing channel token request body) s =
+    HeardOpn (opn_put request body (record s { channel = channel; token = token })) ∷ []
 heard_of (NewLimits size max_message max_chunks) s = []
 heard_of (RenewBoth channel token) s = []
 heard_of (AwaitToken token) s = []

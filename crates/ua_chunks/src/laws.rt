@@ -231,10 +231,10 @@ pub fn senders_stay_sound()
 {}
 
 /// Everything that an end puts is heard as it was put: HEL, ACK, ERR, OPN, MSG and CLO in any order, while limits
-/// change and channels are renewed, by both ends at once or first by the one that hears. The bytes are these frames,
-/// however they are cut, and a front of them is a front of the frames, without a fault; what is heard of a front of the
-/// frames and renewals is a front of what is heard of all. Where a frame breaks a rule, what came before it is heard,
-/// then the fault, and then nothing.
+/// change and channels are renewed, by both ends at once, first by the one that hears, or by an OPN. The bytes are
+/// these frames, however they are cut, and a front of them is a front of the frames, without a fault; what is heard of
+/// a front of the frames and renewals is a front of what is heard of all. Where a frame breaks a rule, what came before
+/// it is heard, then the fault, and then nothing.
 pub fn everything_put_is_heard()
     ensures fed { (actions : List Action) (s : Sending) (t : Tokens) (f : Framing)
         → IsBetween f → IsSending s → AreAllowed actions s t
