@@ -2,6 +2,7 @@
 
 ghost use Rattle.std.specs.Prelude.{◌<◌, IfOk};
 
+use crate::calls::answer_call;
 use crate::digits::{bytes_of, number};
 use crate::elements::tell_within;
 use crate::frames::{tell_count, tell_cuts, tell_frames};
@@ -189,6 +190,7 @@ fn answer_once(
 pub fn answer(alloc: Global, words: &[&str], to: &mut String) -> Result<(), Stop> {
     match words {
         ["cuts", digits @ ..] => answer_cuts(alloc, digits, to),
+        ["call", call @ ..] => answer_call(alloc, call, to),
         ["kind", id] => tell_kind(alloc, id, to),
         ["stream", channel, token, cut, digits @ ..] => {
             answer_stream(alloc, [channel, token, cut], digits, to)

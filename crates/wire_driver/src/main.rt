@@ -3,6 +3,7 @@
 #![tactic(auto)]
 
 mod bodies;
+mod calls;
 mod digits;
 mod elements;
 mod frames;

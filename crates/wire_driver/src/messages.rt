@@ -2,6 +2,7 @@
 
 ghost use Rattle.std.specs.Prelude.{◌<◌};
 
+use crate::calls::{do_limit, put_most, put_partial};
 use crate::digits::{bytes_of, number, put_bytes};
 use crate::frames::{feed, put_bar, put_frame_fault};
 use crate::stop::Stop;
@@ -131,6 +132,7 @@ impl Taking {
     /// Does what the words of a step say.
     fn do_step(&mut self, alloc: Global, words: &[&str], to: &mut String) -> Result<(), Stop> {
         match words {
+            ["partial"] => return Ok(put_partial(alloc, &self.assembler, to)?),
             ["renew", channel, token] => {
                 self.assembler.renew(number(channel)?, number(token)?);
                 put_bar(to)?;
@@ -366,6 +368,10 @@ fn do_put(alloc: Global, sender: &mut Sender, words: &[&str], to: &mut String) -
             to.push_str("renewed")?;
             Ok(())
         }
+        ["limit", size, max_message, max_chunks] => {
+            do_limit(sender, [size, max_message, max_chunks], to)
+        }
+        ["most"] => Ok(put_most(alloc, sender, to)?),
         [kind, request, body @ ..] => {
             let kind = kind_of(kind)?;
             let request = number(request)?;

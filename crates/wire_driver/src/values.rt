@@ -1,5 +1,6 @@
 //! The built-in types.
 
+use crate::calls::tell_copied_message;
 use crate::telling::{Verb, tell_read};
 use std::alloc::Global;
 use ua_base::OutOfMemory;
@@ -316,7 +317,52 @@ pub fn tell_copied(
             },
             to,
         ),
-        _ => return Ok(false),
+        _ => return tell_copied_name(alloc, name, bytes, to),
+    }?;
+    Ok(true)
+}
+
+/// The same, of a name or a message.
+fn tell_copied_name(
+    alloc: Global,
+    name: &str,
+    bytes: &[u8],
+    to: &mut String,
+) -> Result<bool, OutOfMemory> {
+    match name {
+        "ExpandedNodeId" => tell_read(
+            alloc,
+            Verb::Again,
+            &read_expanded_node_id(alloc, bytes),
+            bytes,
+            &|value: &ExpandedNodeId, to: &mut Vec<u8>| {
+                write_expanded_node_id(&value.copy(alloc)?, to)
+            },
+            to,
+        ),
+        "QualifiedName" => tell_read(
+            alloc,
+            Verb::Again,
+            &read_qualified_name(alloc, bytes),
+            bytes,
+            &|value: &QualifiedName, to: &mut Vec<u8>| write_qualified_name(
+                &value.copy(alloc)?,
+                to,
+            ),
+            to,
+        ),
+        "LocalizedText" => tell_read(
+            alloc,
+            Verb::Again,
+            &read_localized_text(alloc, bytes),
+            bytes,
+            &|value: &LocalizedText, to: &mut Vec<u8>| write_localized_text(
+                &value.copy(alloc)?,
+                to,
+            ),
+            to,
+        ),
+        _ => return tell_copied_message(alloc, name, bytes, to),
     }?;
     Ok(true)
 }
