@@ -36,7 +36,7 @@ fn tell_body<B: Body + Debug, W: Fn(&B, &mut Vec<u8>) -> Result<(), OutOfMemory>
 }
 
 /// Tells a body of a direction with this name, and whether there is such a direction.
-pub fn tell_message(
+pub(crate) fn tell_message(
     alloc: Global,
     verb: Verb,
     name: &str,
@@ -203,7 +203,7 @@ fn tell_read_object(
 }
 
 /// Tells what the object holds that these bytes are, and whether there is a family of this name.
-pub fn tell_object(
+pub(crate) fn tell_object(
     alloc: Global,
     verb: Verb,
     name: &str,

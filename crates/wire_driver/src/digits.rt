@@ -9,7 +9,7 @@ use ua_base::OutOfMemory;
 const LONG_RUN: u64 = 16;
 
 /// The number that a word is.
-pub fn number<T: std::str::FromStr + Drop>(word: &str) -> Result<T, Stop>
+pub(crate) fn number<T: std::str::FromStr + Drop>(word: &str) -> Result<T, Stop>
 where
     T::Err: Drop,
 {
@@ -43,7 +43,7 @@ fn put_word(alloc: Global, word: &str, to: &mut Vec<u8>) -> Result<(), Stop> {
 }
 
 /// The bytes of the words.
-pub fn bytes_of(alloc: Global, words: &[&str]) -> Result<Vec<u8>, Stop> {
+pub(crate) fn bytes_of(alloc: Global, words: &[&str]) -> Result<Vec<u8>, Stop> {
     let mut bytes = Vec::new(alloc);
     for word in words {
         put_word(alloc, word, &mut bytes)?;
@@ -96,7 +96,7 @@ impl Run {
 }
 
 /// Appends bytes as such words; sixteen and more equal ones are a word of their own. No bytes are `-`.
-pub fn put_bytes(alloc: Global, bytes: &[u8], to: &mut String) -> Result<(), OutOfMemory> {
+pub(crate) fn put_bytes(alloc: Global, bytes: &[u8], to: &mut String) -> Result<(), OutOfMemory> {
     if bytes.is_empty() {
         to.push('-')?;
         return Ok(());

@@ -32,7 +32,7 @@ fn tell_element<T: Element + Debug>(
 }
 
 /// Tells an array of at most `most` Bytes at the front of the bytes.
-pub fn tell_within(
+pub(crate) fn tell_within(
     alloc: Global,
     most: u32,
     bytes: &[u8],
@@ -51,7 +51,7 @@ pub fn tell_within(
 }
 
 /// Tells a part of a structure with this name, and whether there is such a part.
-pub fn tell_part(
+pub(crate) fn tell_part(
     alloc: Global,
     verb: Verb,
     name: &str,
@@ -70,7 +70,7 @@ pub fn tell_part(
 }
 
 /// Tells an array of numbers of a type with this name, and whether there is such a type.
-pub fn tell_numbers(
+pub(crate) fn tell_numbers(
     alloc: Global,
     verb: Verb,
     name: &str,
@@ -94,7 +94,7 @@ pub fn tell_numbers(
 }
 
 /// Tells an array of texts or of values that hold others, and whether there is such a type.
-pub fn tell_texts(
+pub(crate) fn tell_texts(
     alloc: Global,
     verb: Verb,
     name: &str,

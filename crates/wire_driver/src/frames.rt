@@ -7,7 +7,7 @@ use std::alloc::Global;
 use ua_base::OutOfMemory;
 use ua_chunks::{Frame, FrameFault, Framer};
 
-pub fn put_frame_fault(
+pub(crate) fn put_frame_fault(
     alloc: Global,
     fault: FrameFault,
     to: &mut String,
@@ -22,7 +22,7 @@ pub fn put_frame_fault(
 }
 
 /// A text between two parts of an answer: nothing before the first one.
-pub fn put_bar(to: &mut String) -> Result<(), OutOfMemory> {
+pub(crate) fn put_bar(to: &mut String) -> Result<(), OutOfMemory> {
     if !to.is_empty() {
         to.push_str(" / ")?;
     }
@@ -30,7 +30,7 @@ pub fn put_bar(to: &mut String) -> Result<(), OutOfMemory> {
 }
 
 /// Feeds the bytes in pieces of so many, up to the first fault.
-pub fn feed(
+pub(crate) fn feed(
     alloc: Global,
     framer: &mut Framer,
     cut: usize,
@@ -177,7 +177,7 @@ fn put_after(
 
 /// The frames of bytes that come in two parts, each in pieces of so many; what is left; and, where there is a fault, it, and what
 /// is said of it when more is fed.
-pub fn tell_frames(
+pub(crate) fn tell_frames(
     alloc: Global,
     cut: usize,
     parts: [&[u8]; 2],
@@ -231,7 +231,7 @@ fn put_other(
 }
 
 /// The frames of bytes that come at once, and any other answer when they come one by one, or in two parts.
-pub fn tell_cuts(alloc: Global, bytes: &[u8], to: &mut String) -> Result<(), OutOfMemory> {
+pub(crate) fn tell_cuts(alloc: Global, bytes: &[u8], to: &mut String) -> Result<(), OutOfMemory> {
     let whole = text_of_cut(alloc, bytes.len().max(1), [bytes, &[]])?;
     to.push_str(&whole)?;
     let single = text_of_cut(alloc, 1, [bytes, &[]])?;
@@ -245,7 +245,7 @@ pub fn tell_cuts(alloc: Global, bytes: &[u8], to: &mut String) -> Result<(), Out
 }
 
 /// How many frames there are, and how many bytes are left.
-pub fn tell_count(
+pub(crate) fn tell_count(
     alloc: Global,
     cut: usize,
     bytes: &[u8],

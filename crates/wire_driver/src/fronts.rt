@@ -87,7 +87,7 @@ impl Run {
 }
 
 /// Tells of how many proper fronts, from the shortest on, the same is said, and whether there is such a type.
-pub fn tell_fronts(
+pub(crate) fn tell_fronts(
     alloc: Global,
     name: &str,
     bytes: &[u8],

@@ -41,7 +41,7 @@ fn put_opn(alloc: Global, opn: &OpnChunk, to: &mut Vec<u8>) -> Result<(), OutOfM
 }
 
 /// Tells the body of a frame with this name, and whether there is such a frame. What is written of it is the whole frame.
-pub fn tell_greeting(
+pub(crate) fn tell_greeting(
     alloc: Global,
     verb: Verb,
     name: &str,

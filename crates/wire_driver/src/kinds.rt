@@ -8,7 +8,7 @@ use ua_session_msgs::{IdentityTokenType, SessionReplyType, SessionRequestType};
 use ua_sub_msgs::{FilterType, NotificationType, SubReplyType, SubRequestType};
 
 /// Says which structure of each family has the number.
-pub fn tell_kind(alloc: Global, word: &str, to: &mut String) -> Result<(), Stop> {
+pub(crate) fn tell_kind(alloc: Global, word: &str, to: &mut String) -> Result<(), Stop> {
     let id = number(word)?;
     put_debug(alloc, "", &SessionRequestType::of(id), to)?;
     put_debug(alloc, " ", &SessionReplyType::of(id), to)?;

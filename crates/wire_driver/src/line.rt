@@ -187,7 +187,7 @@ fn answer_once(
 }
 
 /// Answers a line of these words.
-pub fn answer(alloc: Global, words: &[&str], to: &mut String) -> Result<(), Stop> {
+pub(crate) fn answer(alloc: Global, words: &[&str], to: &mut String) -> Result<(), Stop> {
     match words {
         ["cuts", digits @ ..] => answer_cuts(alloc, digits, to),
         ["call", call @ ..] => answer_call(alloc, call, to),

@@ -173,7 +173,7 @@ fn parts_of(alloc: Global, word: &str) -> Result<Vec<&str>, OutOfMemory> {
 }
 
 /// Does the steps with an assembler of this channel and token; the first frame stands at byte 100, each one a byte further.
-pub fn tell_steps(
+pub(crate) fn tell_steps(
     alloc: Global,
     channel: u32,
     token: u32,
@@ -265,7 +265,7 @@ impl Channel {
 
 /// The messages of a stream that comes in pieces of so many bytes: of HEL, ACK and ERR the body, of an OPN the channel, number, request
 /// and body, of a MSG or CLO the request and body, where a message ends. Each OPN after the first renews the token by one.
-pub fn tell_stream(
+pub(crate) fn tell_stream(
     alloc: Global,
     channel: u32,
     token: u32,
@@ -397,7 +397,7 @@ fn do_puts(
 }
 
 /// Does the steps with a sender of these numbers: channel, token, size of a frame, and the other end's limits.
-pub fn tell_puts(
+pub(crate) fn tell_puts(
     alloc: Global,
     numbers: [u32; 5],
     steps: &[&str],
@@ -437,7 +437,7 @@ fn count_passed(alloc: Global, bytes: &[u8], cut: usize, body: &[u8]) -> Result<
 }
 
 /// Puts the body as a MSG in frames of this size, takes the bytes in pieces of so many, and says how many messages had this body.
-pub fn tell_passed(
+pub(crate) fn tell_passed(
     alloc: Global,
     size: u32,
     cut: usize,

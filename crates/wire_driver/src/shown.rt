@@ -76,7 +76,7 @@ fn put_shown(
 }
 
 /// Tells what is shown of the bytes as a thing with this name, and whether there is such a thing.
-pub fn tell_shown(
+pub(crate) fn tell_shown(
     alloc: Global,
     verb: Verb,
     name: &str,

@@ -19,7 +19,7 @@ pub enum Verb {
 }
 
 impl Verb {
-    pub fn of(word: &str) -> Option<Verb> {
+    pub(crate) fn of(word: &str) -> Option<Verb> {
         match word {
             "read" => Some(Verb::Read),
             "again" => Some(Verb::Again),
@@ -30,7 +30,7 @@ impl Verb {
 }
 
 /// Appends a value as its type's `Debug` has it.
-pub fn put_debug<T: Debug>(
+pub(crate) fn put_debug<T: Debug>(
     alloc: Global,
     head: &str,
     value: &T,
@@ -45,7 +45,7 @@ fn put_place(alloc: Global, place: u64, code: u32, to: &mut String) -> Result<()
     Ok(())
 }
 
-pub fn put_value_fault(
+pub(crate) fn put_value_fault(
     alloc: Global,
     fault: ValueFault,
     to: &mut String,
@@ -58,7 +58,11 @@ pub fn put_value_fault(
     Ok(())
 }
 
-pub fn put_body_fault(alloc: Global, fault: BodyFault, to: &mut String) -> Result<(), OutOfMemory> {
+pub(crate) fn put_body_fault(
+    alloc: Global,
+    fault: BodyFault,
+    to: &mut String,
+) -> Result<(), OutOfMemory> {
     match fault {
         BodyFault::Unknown { id } => to.push_str(&format!(in alloc; "unknown {id}")?)?,
         BodyFault::Bad { place, code } => put_place(alloc, place as u64, code, to)?,
@@ -68,7 +72,7 @@ pub fn put_body_fault(alloc: Global, fault: BodyFault, to: &mut String) -> Resul
 }
 
 /// A byte that stands before what is written.
-pub const BEFORE: u8 = 0x55;
+pub(crate) const BEFORE: u8 = 0x55;
 
 /// Appends what was written behind that byte: `same` where that is what was read.
 fn put_written(
@@ -94,7 +98,7 @@ fn put_written(
 }
 
 /// Tells a value that stood in these bytes.
-pub fn tell<T: Debug, W: Fn(&T, &mut Vec<u8>) -> Result<(), OutOfMemory>>(
+pub(crate) fn tell<T: Debug, W: Fn(&T, &mut Vec<u8>) -> Result<(), OutOfMemory>>(
     alloc: Global,
     verb: Verb,
     value: &T,
@@ -125,7 +129,7 @@ fn front(bytes: &[u8], size: usize) -> &[u8] {
 }
 
 /// Tells what was read at the front of these bytes, behind how many it takes; or the fault.
-pub fn tell_read<T: Debug, W: Fn(&T, &mut Vec<u8>) -> Result<(), OutOfMemory>>(
+pub(crate) fn tell_read<T: Debug, W: Fn(&T, &mut Vec<u8>) -> Result<(), OutOfMemory>>(
     alloc: Global,
     verb: Verb,
     read: &Result<(T, usize), ValueFault>,
@@ -145,7 +149,7 @@ pub fn tell_read<T: Debug, W: Fn(&T, &mut Vec<u8>) -> Result<(), OutOfMemory>>(
 }
 
 /// Tells what was read of the whole of these bytes, behind a word for it; or the fault.
-pub fn tell_whole<T: Debug, W: Fn(&T, &mut Vec<u8>) -> Result<(), OutOfMemory>>(
+pub(crate) fn tell_whole<T: Debug, W: Fn(&T, &mut Vec<u8>) -> Result<(), OutOfMemory>>(
     alloc: Global,
     verb: Verb,
     read: &Result<T, ValueFault>,

@@ -8,7 +8,7 @@ use std::alloc::Global;
 use ua_base::OutOfMemory;
 
 /// Tells what the bytes are as a type of this name, and whether there is such a type.
-pub fn tell_type(
+pub(crate) fn tell_type(
     alloc: Global,
     verb: Verb,
     name: &str,

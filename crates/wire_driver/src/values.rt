@@ -22,7 +22,7 @@ use ua_variants::{
 use uuid::Uuid;
 
 /// Tells a number of a type with this name, and whether there is such a type.
-pub fn tell_number(
+pub(crate) fn tell_number(
     alloc: Global,
     verb: Verb,
     name: &str,
@@ -161,7 +161,7 @@ fn tell_long_number(
 }
 
 /// Tells a text, a name or a structure of a type with this name, and whether there is such a type.
-pub fn tell_text(
+pub(crate) fn tell_text(
     alloc: Global,
     verb: Verb,
     name: &str,
@@ -276,7 +276,7 @@ fn tell_nested(
 }
 
 /// Writes a copy of the value that stands at the front of the bytes, and tells whether there is such a type.
-pub fn tell_copied(
+pub(crate) fn tell_copied(
     alloc: Global,
     name: &str,
     bytes: &[u8],
