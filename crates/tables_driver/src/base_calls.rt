@@ -52,7 +52,7 @@ fn put_timestamps(alloc: Global, to: &mut String, number: u32) -> Result<(), Sto
 }
 
 /// Answers a line of these words.
-pub fn answer(alloc: Global, words: &[&str], to: &mut String) -> Result<(), Stop> {
+pub(crate) fn answer(alloc: Global, words: &[&str], to: &mut String) -> Result<(), Stop> {
     match words {
         ["ms", digits] => put_ms(alloc, to, bits(digits)?),
         ["bits", ms] => put_bits(alloc, to, number(ms)?),

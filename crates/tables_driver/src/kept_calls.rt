@@ -16,7 +16,7 @@ fn kept(alloc: Global) -> Result<Kept<u64>, OutOfMemory> {
 }
 
 impl KeptTable {
-    pub fn new(alloc: Global) -> Result<KeptTable, Stop> {
+    pub(crate) fn new(alloc: Global) -> Result<KeptTable, Stop> {
         let kept = kept(alloc)?;
         Ok(KeptTable { kept })
     }
@@ -59,7 +59,12 @@ impl KeptTable {
     }
 
     /// Answers a call of these words.
-    pub fn answer(&mut self, alloc: Global, words: &[&str], to: &mut String) -> Result<(), Stop> {
+    pub(crate) fn answer(
+        &mut self,
+        alloc: Global,
+        words: &[&str],
+        to: &mut String,
+    ) -> Result<(), Stop> {
         match words {
             ["new"] => self.kept = kept(alloc)?,
             ["send", sent, message] => self.send(number(sent)?, number(message)?)?,

@@ -115,7 +115,7 @@ fn line(alloc: Global, words: &[&str]) -> Result<LogLine, Stop> {
 }
 
 /// Answers the rule: the verdict on an entry, and the joint after it.
-pub fn answer_judge(alloc: Global, words: [&str; 4], to: &mut String) -> Result<(), Stop> {
+pub(crate) fn answer_judge(alloc: Global, words: [&str; 4], to: &mut String) -> Result<(), Stop> {
     let [last, before, time, marked] = words;
     let (verdict, after) = judge(
         some_stamp(last)?,
@@ -157,7 +157,7 @@ fn has_item(log: &Log, item: u8) -> bool
 }
 
 impl Journal {
-    pub fn new(alloc: Global, servers: u8, items: u8) -> Result<Journal, Stop> {
+    pub(crate) fn new(alloc: Global, servers: u8, items: u8) -> Result<Journal, Stop> {
         let log = Log::new(alloc, servers, items)?;
         Ok(Journal { log })
     }
@@ -231,7 +231,12 @@ impl Journal {
     }
 
     /// Answers a call of these words.
-    pub fn answer(&mut self, alloc: Global, words: &[&str], to: &mut String) -> Result<(), Stop> {
+    pub(crate) fn answer(
+        &mut self,
+        alloc: Global,
+        words: &[&str],
+        to: &mut String,
+    ) -> Result<(), Stop> {
         match words {
             ["new", servers, items] => {
                 *self = Journal::new(alloc, number(servers)?, number(items)?)?

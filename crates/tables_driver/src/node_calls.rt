@@ -124,7 +124,7 @@ fn empty(alloc: Global, uri: UaText) -> Nodes {
 }
 
 impl NodeTable {
-    pub fn new(alloc: Global) -> NodeTable {
+    pub(crate) fn new(alloc: Global) -> NodeTable {
         NodeTable {
             nodes: empty(alloc, UaText::null()),
         }
@@ -181,7 +181,12 @@ impl NodeTable {
     }
 
     /// Answers a call of these words.
-    pub fn answer(&mut self, alloc: Global, words: &[&str], to: &mut String) -> Result<(), Stop> {
+    pub(crate) fn answer(
+        &mut self,
+        alloc: Global,
+        words: &[&str],
+        to: &mut String,
+    ) -> Result<(), Stop> {
         match words {
             ["new", uri, support, level, start, now, items] => {
                 self.make(alloc, uri, [support, level, start, now, items])?
@@ -227,7 +232,7 @@ fn put_uris(to: &mut String, member: &Member) -> Result<(), Stop> {
 }
 
 /// Answers the class of a level.
-pub fn answer_class(alloc: Global, level: &str, to: &mut String) -> Result<(), Stop> {
+pub(crate) fn answer_class(alloc: Global, level: &str, to: &mut String) -> Result<(), Stop> {
     let class = class_of(number(level)?);
     put(to, format!(in alloc; "{class:?}")?.as_str())
 }

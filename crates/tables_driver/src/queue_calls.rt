@@ -42,7 +42,7 @@ fn put_entries(alloc: Global, to: &mut String, entries: &[Entry]) -> Result<(), 
 }
 
 impl QueueTable {
-    pub fn new(alloc: Global) -> Result<QueueTable, Stop> {
+    pub(crate) fn new(alloc: Global) -> Result<QueueTable, Stop> {
         let queue = queue(alloc, 1, "oldest")?;
         Ok(QueueTable { queue })
     }
@@ -75,7 +75,12 @@ impl QueueTable {
     }
 
     /// Answers a call of these words.
-    pub fn answer(&mut self, alloc: Global, words: &[&str], to: &mut String) -> Result<(), Stop> {
+    pub(crate) fn answer(
+        &mut self,
+        alloc: Global,
+        words: &[&str],
+        to: &mut String,
+    ) -> Result<(), Stop> {
         match words {
             ["new", size, which] => self.queue = queue(alloc, number(size)?, which)?,
             ["push", at, value] => self.push(at, value)?,

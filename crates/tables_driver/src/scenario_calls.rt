@@ -41,7 +41,12 @@ fn put_written(
 }
 
 /// Answers what is written of the scenario that is read where so many listeners stand ready, or its fault.
-pub fn answer(alloc: Global, pool: &str, words: &[&str], to: &mut String) -> Result<(), Stop> {
+pub(crate) fn answer(
+    alloc: Global,
+    pool: &str,
+    words: &[&str],
+    to: &mut String,
+) -> Result<(), Stop> {
     let pool = number(pool)?;
     let text = text_of(alloc, words)?;
     put_written(alloc, to, &read(alloc, &text, pool))

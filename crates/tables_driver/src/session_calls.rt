@@ -71,7 +71,7 @@ fn put_token(alloc: Global, to: &mut String, boot: u16, counter: u32) -> Result<
 }
 
 impl SessionTable {
-    pub fn new(alloc: Global, boot: u16) -> SessionTable {
+    pub(crate) fn new(alloc: Global, boot: u16) -> SessionTable {
         SessionTable {
             boot,
             sessions: Sessions::new(alloc, boot),
@@ -190,7 +190,12 @@ impl SessionTable {
     }
 
     /// Answers a call of these words.
-    pub fn answer(&mut self, alloc: Global, words: &[&str], to: &mut String) -> Result<(), Stop> {
+    pub(crate) fn answer(
+        &mut self,
+        alloc: Global,
+        words: &[&str],
+        to: &mut String,
+    ) -> Result<(), Stop> {
         match words {
             ["create", conn, timeout, now, uri] => {
                 self.create(alloc, [conn, timeout, now, uri], to)

@@ -11,7 +11,7 @@ pub struct SourceTable {
 }
 
 impl SourceTable {
-    pub fn new(alloc: Global) -> SourceTable {
+    pub(crate) fn new(alloc: Global) -> SourceTable {
         SourceTable {
             source: SourceLog::new(alloc),
         }
@@ -28,7 +28,12 @@ impl SourceTable {
     }
 
     /// Answers a call of these words.
-    pub fn answer(&mut self, alloc: Global, words: &[&str], to: &mut String) -> Result<(), Stop> {
+    pub(crate) fn answer(
+        &mut self,
+        alloc: Global,
+        words: &[&str],
+        to: &mut String,
+    ) -> Result<(), Stop> {
         match words {
             ["new"] => {
                 *self = SourceTable::new(alloc);

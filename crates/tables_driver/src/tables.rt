@@ -22,7 +22,7 @@ pub struct Tables {
 }
 
 impl Tables {
-    pub fn new(alloc: Global) -> Result<Tables, Stop> {
+    pub(crate) fn new(alloc: Global) -> Result<Tables, Stop> {
         Ok(Tables {
             sessions: SessionTable::new(alloc, 1),
             kept: KeptTable::new(alloc)?,
@@ -34,7 +34,12 @@ impl Tables {
     }
 
     /// Answers a line of these words.
-    pub fn answer(&mut self, alloc: Global, words: &[&str], to: &mut String) -> Result<(), Stop> {
+    pub(crate) fn answer(
+        &mut self,
+        alloc: Global,
+        words: &[&str],
+        to: &mut String,
+    ) -> Result<(), Stop> {
         match words {
             ["session", call @ ..] => self.sessions.answer(alloc, call, to),
             ["kept", call @ ..] => self.kept.answer(alloc, call, to),

@@ -9,7 +9,7 @@ use std::alloc::Global;
 use ua_values::{UaBytes, UaText};
 
 /// The number that a word is.
-pub fn number<T: std::str::FromStr + Drop>(word: &str) -> Result<T, Stop>
+pub(crate) fn number<T: std::str::FromStr + Drop>(word: &str) -> Result<T, Stop>
 where
     T::Err: Drop,
 {
@@ -20,7 +20,7 @@ where
 }
 
 /// The text that a word is; `null` is the one that isn't there.
-pub fn text(alloc: Global, word: &str) -> Result<UaText, Stop> {
+pub(crate) fn text(alloc: Global, word: &str) -> Result<UaText, Stop> {
     if word == "null" {
         return Ok(UaText::null());
     }
@@ -29,7 +29,7 @@ pub fn text(alloc: Global, word: &str) -> Result<UaText, Stop> {
 }
 
 /// The bytes of hexadecimal digits; `-` are none.
-pub fn bytes(alloc: Global, word: &str) -> Result<Vec<u8>, Stop> {
+pub(crate) fn bytes(alloc: Global, word: &str) -> Result<Vec<u8>, Stop> {
     if word == "-" {
         return Ok(Vec::new(alloc));
     }
@@ -41,7 +41,7 @@ pub fn bytes(alloc: Global, word: &str) -> Result<Vec<u8>, Stop> {
 }
 
 /// The ByteString of hexadecimal digits; `null` is the one that isn't there.
-pub fn byte_string(alloc: Global, word: &str) -> Result<UaBytes, Stop> {
+pub(crate) fn byte_string(alloc: Global, word: &str) -> Result<UaBytes, Stop> {
     if word == "null" {
         Ok(UaBytes::null())
     } else {
@@ -50,7 +50,7 @@ pub fn byte_string(alloc: Global, word: &str) -> Result<UaBytes, Stop> {
 }
 
 /// The stamp of a word: a time, or a time and picoseconds behind a dot.
-pub fn stamp(word: &str) -> Result<Stamp, Stop>
+pub(crate) fn stamp(word: &str) -> Result<Stamp, Stop>
     ensures { IfOk result (λ stamp. stamp.pico ≤ 9999) }
 {
     let (time, pico) = match word.split_once('.') {
@@ -67,7 +67,7 @@ pub fn stamp(word: &str) -> Result<Stamp, Stop>
 }
 
 /// The stamp of a word; `none` is none.
-pub fn some_stamp(word: &str) -> Result<Option<Stamp>, Stop> {
+pub(crate) fn some_stamp(word: &str) -> Result<Option<Stamp>, Stop> {
     if word == "none" {
         Ok(None)
     } else {
@@ -76,7 +76,7 @@ pub fn some_stamp(word: &str) -> Result<Option<Stamp>, Stop> {
 }
 
 /// The change of an item at a stamp.
-pub fn change(item: &str, at: &str, value: &str) -> Result<Change, Stop>
+pub(crate) fn change(item: &str, at: &str, value: &str) -> Result<Change, Stop>
     ensures { IfOk result (λ change. change.pico ≤ 9999) }
 {
     let Stamp { time, pico } = stamp(at)?;
@@ -89,7 +89,7 @@ pub fn change(item: &str, at: &str, value: &str) -> Result<Change, Stop>
 }
 
 /// `true` or `false`.
-pub fn truth(word: &str) -> Result<bool, Stop> {
+pub(crate) fn truth(word: &str) -> Result<bool, Stop> {
     match word {
         "true" => Ok(true),
         "false" => Ok(false),
@@ -98,13 +98,13 @@ pub fn truth(word: &str) -> Result<bool, Stop> {
 }
 
 /// Appends a text.
-pub fn put(to: &mut String, text: &str) -> Result<(), Stop> {
+pub(crate) fn put(to: &mut String, text: &str) -> Result<(), Stop> {
     to.push_str(text)?;
     Ok(())
 }
 
 /// Appends a text whose line feeds are `/`.
-pub fn put_lines(alloc: Global, to: &mut String, text: &[u8]) -> Result<(), Stop> {
+pub(crate) fn put_lines(alloc: Global, to: &mut String, text: &[u8]) -> Result<(), Stop> {
     let Ok(text) = std::str::from_utf8(text) else {
         return put(to, "no text");
     };
@@ -122,7 +122,7 @@ fn put_line(alloc: Global, to: &mut String, part: &str) -> Result<(), Stop> {
 }
 
 /// Appends a text; `null` is the one that isn't there.
-pub fn put_text(to: &mut String, text: &UaText) -> Result<(), Stop> {
+pub(crate) fn put_text(to: &mut String, text: &UaText) -> Result<(), Stop> {
     let Some(bytes) = text.bytes() else {
         return put(to, "null");
     };
@@ -133,7 +133,7 @@ pub fn put_text(to: &mut String, text: &UaText) -> Result<(), Stop> {
 }
 
 /// Appends bytes as hexadecimal digits; none are `-`.
-pub fn put_bytes(alloc: Global, to: &mut String, bytes: &[u8]) -> Result<(), Stop> {
+pub(crate) fn put_bytes(alloc: Global, to: &mut String, bytes: &[u8]) -> Result<(), Stop> {
     if bytes.is_empty() {
         return put(to, "-");
     }
@@ -141,7 +141,7 @@ pub fn put_bytes(alloc: Global, to: &mut String, bytes: &[u8]) -> Result<(), Sto
 }
 
 /// Appends a number, if there is one.
-pub fn put_some(alloc: Global, to: &mut String, some: Option<u32>) -> Result<(), Stop> {
+pub(crate) fn put_some(alloc: Global, to: &mut String, some: Option<u32>) -> Result<(), Stop> {
     match some {
         Some(number) => put(to, format!(in alloc; "{number}")?.as_str()),
         None => put(to, "none"),
@@ -149,11 +149,11 @@ pub fn put_some(alloc: Global, to: &mut String, some: Option<u32>) -> Result<(),
 }
 
 /// Appends `true` or `false`.
-pub fn put_truth(to: &mut String, is: bool) -> Result<(), Stop> {
+pub(crate) fn put_truth(to: &mut String, is: bool) -> Result<(), Stop> {
     put(to, if is { "true" } else { "false" })
 }
 
 /// Appends a number.
-pub fn put_number(alloc: Global, to: &mut String, number: u64) -> Result<(), Stop> {
+pub(crate) fn put_number(alloc: Global, to: &mut String, number: u64) -> Result<(), Stop> {
     put(to, format!(in alloc; "{number}")?.as_str())
 }
