@@ -10,7 +10,7 @@ use crate::method::CallResponse;
 use crate::session::{ActivateSessionResponse, CreateSessionResponse};
 use std::alloc::Global;
 use ua_base::OutOfMemory;
-use ua_structures::{Body, BodyFault, ResponseHeader, read_body, write_body};
+use ua_structures::{Body, BodyFault, ResponseHeader, read_as, read_body, write_body};
 use ua_values::{Cursor, Element, ValueFault};
 
 /// Which of these replies a body is.
@@ -128,32 +128,30 @@ impl Body for SessionReply {
         which: SessionReplyType,
         from: &mut Cursor<'_>,
     ) -> Result<SessionReply, ValueFault> {
-        Ok(match which {
-            SessionReplyType::ServiceFault => SessionReply::ServiceFault(Element::read(
-                alloc, from,
-            )?),
-            SessionReplyType::OpenSecureChannel => SessionReply::OpenSecureChannel(Element::read(
-                alloc, from,
-            )?),
-            SessionReplyType::CloseSecureChannel => SessionReply::CloseSecureChannel(Element::read(
-                alloc, from,
-            )?),
-            SessionReplyType::FindServers => SessionReply::FindServers(Element::read(alloc, from)?),
-            SessionReplyType::GetEndpoints => SessionReply::GetEndpoints(Element::read(
-                alloc, from,
-            )?),
-            SessionReplyType::CreateSession => SessionReply::CreateSession(Element::read(
-                alloc, from,
-            )?),
-            SessionReplyType::ActivateSession => SessionReply::ActivateSession(Element::read(
-                alloc, from,
-            )?),
-            SessionReplyType::CloseSession => SessionReply::CloseSession(Element::read(
-                alloc, from,
-            )?),
-            SessionReplyType::Read => SessionReply::Read(Element::read(alloc, from)?),
-            SessionReplyType::Call => SessionReply::Call(Element::read(alloc, from)?),
-        })
+        match which {
+            SessionReplyType::ServiceFault => read_as!(SessionReply::ServiceFault, alloc, from),
+            SessionReplyType::OpenSecureChannel => read_as!(
+                SessionReply::OpenSecureChannel,
+                alloc,
+                from
+            ),
+            SessionReplyType::CloseSecureChannel => read_as!(
+                SessionReply::CloseSecureChannel,
+                alloc,
+                from
+            ),
+            SessionReplyType::FindServers => read_as!(SessionReply::FindServers, alloc, from),
+            SessionReplyType::GetEndpoints => read_as!(SessionReply::GetEndpoints, alloc, from),
+            SessionReplyType::CreateSession => read_as!(SessionReply::CreateSession, alloc, from),
+            SessionReplyType::ActivateSession => read_as!(
+                SessionReply::ActivateSession,
+                alloc,
+                from
+            ),
+            SessionReplyType::CloseSession => read_as!(SessionReply::CloseSession, alloc, from),
+            SessionReplyType::Read => read_as!(SessionReply::Read, alloc, from),
+            SessionReplyType::Call => read_as!(SessionReply::Call, alloc, from),
+        }
     }
 
     fn number(&self) -> u32 {

@@ -10,7 +10,7 @@ use crate::method::CallRequest;
 use crate::session::{ActivateSessionRequest, CloseSessionRequest, CreateSessionRequest};
 use std::alloc::Global;
 use ua_base::OutOfMemory;
-use ua_structures::{Body, BodyFault, RequestHeader, read_body, write_body};
+use ua_structures::{Body, BodyFault, RequestHeader, read_as, read_body, write_body};
 use ua_values::{Cursor, Element, ValueFault};
 
 /// Which of these requests a body is.
@@ -123,31 +123,33 @@ impl Body for SessionRequest {
         which: SessionRequestType,
         from: &mut Cursor<'_>,
     ) -> Result<SessionRequest, ValueFault> {
-        Ok(match which {
-            SessionRequestType::OpenSecureChannel => SessionRequest::OpenSecureChannel(
-                Element::read(alloc, from)?,
+        match which {
+            SessionRequestType::OpenSecureChannel => read_as!(
+                SessionRequest::OpenSecureChannel,
+                alloc,
+                from
             ),
-            SessionRequestType::CloseSecureChannel => SessionRequest::CloseSecureChannel(
-                Element::read(alloc, from)?,
+            SessionRequestType::CloseSecureChannel => read_as!(
+                SessionRequest::CloseSecureChannel,
+                alloc,
+                from
             ),
-            SessionRequestType::FindServers => SessionRequest::FindServers(Element::read(
-                alloc, from,
-            )?),
-            SessionRequestType::GetEndpoints => SessionRequest::GetEndpoints(Element::read(
-                alloc, from,
-            )?),
-            SessionRequestType::CreateSession => SessionRequest::CreateSession(Element::read(
-                alloc, from,
-            )?),
-            SessionRequestType::ActivateSession => SessionRequest::ActivateSession(Element::read(
-                alloc, from,
-            )?),
-            SessionRequestType::CloseSession => SessionRequest::CloseSession(Element::read(
-                alloc, from,
-            )?),
-            SessionRequestType::Read => SessionRequest::Read(Element::read(alloc, from)?),
-            SessionRequestType::Call => SessionRequest::Call(Element::read(alloc, from)?),
-        })
+            SessionRequestType::FindServers => read_as!(SessionRequest::FindServers, alloc, from),
+            SessionRequestType::GetEndpoints => read_as!(SessionRequest::GetEndpoints, alloc, from),
+            SessionRequestType::CreateSession => read_as!(
+                SessionRequest::CreateSession,
+                alloc,
+                from
+            ),
+            SessionRequestType::ActivateSession => read_as!(
+                SessionRequest::ActivateSession,
+                alloc,
+                from
+            ),
+            SessionRequestType::CloseSession => read_as!(SessionRequest::CloseSession, alloc, from),
+            SessionRequestType::Read => read_as!(SessionRequest::Read, alloc, from),
+            SessionRequestType::Call => read_as!(SessionRequest::Call, alloc, from),
+        }
     }
 
     fn number(&self) -> u32 {

@@ -1,6 +1,7 @@
 //! A structure's fields, read and written one after the other.
 
 ghost use Rattle.std.specs.Prelude.{◌≡◌, ◌++◌, List, ℕ, OnOk};
+ghost use Rattle.ua_values.specs.Reading.{Reader, Moves};
 
 use std::alloc::Global;
 use std::marker::Model;
@@ -34,64 +35,89 @@ impl<A: Fields, B: Fields> Fields for (A, B) {
     }
 }
 
-/// Two values that are read one after the other; the second may be two again.
+/// Values that are read one after the other: a pair of one and of more such, or the last of them.
+pub trait Parts: Sized + Drop {
+    ghost at: { Reader Self };
+
+    /// Reads them.
+    fn read_parts(alloc: Global, from: &mut Cursor<'_>) -> Result<Self, ValueFault>
+        ensures { Moves (λ parts. parts) result from.new (at from.old) };
+}
+
+/// The last of the values that are read one after the other.
 #[derive(Debug, Drop)]
-pub struct Both<A, B> {
-    first: A,
-    second: B,
+pub struct Last<T> {
+    value: T,
 }
 
-impl<A, B> Model for Both<A, B> {
-    ghost Value = { A × B };
+impl<T> Model for Last<T> {
+    ghost Value = { T };
 
-    ghost view = { λ both. (both.first, both.second) };
+    ghost view = { λ last. last.value };
 }
 
-impl<A, B> Both<A, B> {
-    /// The two.
-    pub fn apart(self) -> (A, B)
+impl<T> Last<T> {
+    /// The value itself.
+    pub fn take(self) -> T
         ensures { result ≡ self }
     {
-        (self.first, self.second)
+        self.value
     }
 }
 
-impl<A: Element, B: Element> Element for Both<A, B> {
+impl<T: Element> Parts for Last<T> {
+    ghost at = { T.at };
+
+    fn read_parts(alloc: Global, from: &mut Cursor<'_>) -> Result<Last<T>, ValueFault> {
+        let value = T::read(alloc, from)?;
+        Ok(Last { value })
+    }
+}
+
+impl<A: Element, B: Parts> Parts for (A, B) {
     ghost use Rattle.ua_structures.specs.Form.{pair_at};
 
     ghost at = { pair_at A.at B.at };
 
-    ghost written = { λ both. A.written both.0 ++ B.written both.1 };
-
-    fn read(alloc: Global, from: &mut Cursor<'_>) -> Result<Both<A, B>, ValueFault> {
+    fn read_parts(alloc: Global, from: &mut Cursor<'_>) -> Result<(A, B), ValueFault> {
         let first = A::read(alloc, from)?;
-        let second = B::read(alloc, from)?;
-        Ok(Both { first, second })
-    }
-
-    fn put(&self, to: &mut Vec<u8>) -> Result<(), OutOfMemory> {
-        self.first.put(to)?;
-        self.second.put(to)
+        let rest = B::read_parts(alloc, from)?;
+        Ok((first, rest))
     }
 }
 
-/// Reads the fields of a structure in their order, and makes it.
+/// Reads the fields of a structure in their order, and makes it. A `?` would call functions at the whole type of the structure.
 #[macro_export]
 macro_rules! read_fields {
-    ($alloc:expr, $from:expr => $($field:ident),+) => {{
-        let fields = ua_values::Element::read($alloc, $from)?;
-        $crate::take_apart!(fields, $($field),+);
-        Ok(Self { $($field),+ })
-    }};
+    ($alloc:expr, $from:expr => $($field:ident),+) => {
+        match $crate::Parts::read_parts($alloc, $from) {
+            Ok(parts) => {
+                $crate::take_apart!(parts, $($field),+);
+                Ok(Self { $($field),+ })
+            }
+            Err(fault) => Err(fault),
+        }
+    };
 }
 
 /// Gives each of the values that were read together a name of its own.
 #[macro_export]
 macro_rules! take_apart {
-    ($fields:expr, $field:ident) => { let $field = $fields; };
-    ($fields:expr, $field:ident, $($more:ident),+) => {
-        let ($field, rest) = $crate::Both::apart($fields);
+    ($parts:expr, $field:ident) => { let $field = $crate::Last::take($parts); };
+    ($parts:expr, $field:ident, $($more:ident),+) => {
+        let ($field, rest) = $parts;
         $crate::take_apart!(rest, $($more),+);
+    };
+}
+
+/// Reads a structure, as a variant of an enum of structures. A `?` would call functions at the whole type of the enum.
+#[macro_export]
+macro_rules! read_as {
+    ($variant:path, $alloc:expr, $from:expr) => {
+        match ua_values::Element::read($alloc, $from) {
+            Ok(structure) => Ok($variant(structure)),
+            Err(fault) => Err(fault),
+        }
     };
 }
 

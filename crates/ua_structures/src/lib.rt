@@ -12,7 +12,7 @@ mod unused;
 
 pub use array::UaArray;
 pub use body::{Body, BodyFault, read_body, read_content, write_body, write_content};
-pub use fields::{Both, Fields};
+pub use fields::{Fields, Last, Parts};
 pub use front::{BodyType, read_header, read_type};
 pub use header::{RequestHeader, ResponseHeader};
 pub use laws::{

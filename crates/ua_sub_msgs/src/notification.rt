@@ -8,7 +8,7 @@ ghost use Rattle.ua_sub_msgs.specs.Families.{notification_put, notifications};
 use std::alloc::Global;
 use ua_base::OutOfMemory;
 use ua_structures::{
-    Body, BodyFault, UaArray, UnusedDiagnostics, put_fields, read_content, read_fields,
+    Body, BodyFault, UaArray, UnusedDiagnostics, put_fields, read_as, read_content, read_fields,
     write_content,
 };
 use ua_values::{Cursor, Element, ExtensionObject, ValueFault};
@@ -161,12 +161,10 @@ impl Body for Notification {
         which: NotificationType,
         from: &mut Cursor<'_>,
     ) -> Result<Notification, ValueFault> {
-        Ok(match which {
-            NotificationType::DataChange => Notification::DataChange(Element::read(alloc, from)?),
-            NotificationType::StatusChange => Notification::StatusChange(Element::read(
-                alloc, from,
-            )?),
-        })
+        match which {
+            NotificationType::DataChange => read_as!(Notification::DataChange, alloc, from),
+            NotificationType::StatusChange => read_as!(Notification::StatusChange, alloc, from),
+        }
     }
 
     fn number(&self) -> u32 {

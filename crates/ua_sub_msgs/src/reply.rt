@@ -11,7 +11,7 @@ use crate::subscription::{
 };
 use std::alloc::Global;
 use ua_base::OutOfMemory;
-use ua_structures::{Body, BodyFault, read_body, write_body};
+use ua_structures::{Body, BodyFault, read_as, read_body, write_body};
 use ua_values::{Cursor, Element, ValueFault};
 
 /// Which of these replies a body is.
@@ -126,34 +126,34 @@ impl Body for SubReply {
         which: SubReplyType,
         from: &mut Cursor<'_>,
     ) -> Result<SubReply, ValueFault> {
-        Ok(match which {
-            SubReplyType::CreateMonitoredItems => SubReply::CreateMonitoredItems(Element::read(
-                alloc, from,
-            )?),
-            SubReplyType::SetMonitoringMode => SubReply::SetMonitoringMode(Element::read(
-                alloc, from,
-            )?),
-            SubReplyType::DeleteMonitoredItems => SubReply::DeleteMonitoredItems(Element::read(
-                alloc, from,
-            )?),
-            SubReplyType::CreateSubscription => SubReply::CreateSubscription(Element::read(
-                alloc, from,
-            )?),
-            SubReplyType::ModifySubscription => SubReply::ModifySubscription(Element::read(
-                alloc, from,
-            )?),
-            SubReplyType::SetPublishingMode => SubReply::SetPublishingMode(Element::read(
-                alloc, from,
-            )?),
-            SubReplyType::Publish => SubReply::Publish(Element::read(alloc, from)?),
-            SubReplyType::Republish => SubReply::Republish(Element::read(alloc, from)?),
-            SubReplyType::TransferSubscriptions => SubReply::TransferSubscriptions(Element::read(
-                alloc, from,
-            )?),
-            SubReplyType::DeleteSubscriptions => SubReply::DeleteSubscriptions(Element::read(
-                alloc, from,
-            )?),
-        })
+        match which {
+            SubReplyType::CreateMonitoredItems => read_as!(
+                SubReply::CreateMonitoredItems,
+                alloc,
+                from
+            ),
+            SubReplyType::SetMonitoringMode => read_as!(SubReply::SetMonitoringMode, alloc, from),
+            SubReplyType::DeleteMonitoredItems => read_as!(
+                SubReply::DeleteMonitoredItems,
+                alloc,
+                from
+            ),
+            SubReplyType::CreateSubscription => read_as!(SubReply::CreateSubscription, alloc, from),
+            SubReplyType::ModifySubscription => read_as!(SubReply::ModifySubscription, alloc, from),
+            SubReplyType::SetPublishingMode => read_as!(SubReply::SetPublishingMode, alloc, from),
+            SubReplyType::Publish => read_as!(SubReply::Publish, alloc, from),
+            SubReplyType::Republish => read_as!(SubReply::Republish, alloc, from),
+            SubReplyType::TransferSubscriptions => read_as!(
+                SubReply::TransferSubscriptions,
+                alloc,
+                from
+            ),
+            SubReplyType::DeleteSubscriptions => read_as!(
+                SubReply::DeleteSubscriptions,
+                alloc,
+                from
+            ),
+        }
     }
 
     fn number(&self) -> u32 {

@@ -13,7 +13,7 @@ use crate::subscription::{
 };
 use std::alloc::Global;
 use ua_base::OutOfMemory;
-use ua_structures::{Body, BodyFault, read_body, write_body};
+use ua_structures::{Body, BodyFault, read_as, read_body, write_body};
 use ua_values::{Cursor, Element, ValueFault};
 
 /// Which of these requests a body is.
@@ -131,34 +131,50 @@ impl Body for SubRequest {
         which: SubRequestType,
         from: &mut Cursor<'_>,
     ) -> Result<SubRequest, ValueFault> {
-        Ok(match which {
-            SubRequestType::CreateMonitoredItems => SubRequest::CreateMonitoredItems(Element::read(
-                alloc, from,
-            )?),
-            SubRequestType::SetMonitoringMode => SubRequest::SetMonitoringMode(Element::read(
-                alloc, from,
-            )?),
-            SubRequestType::DeleteMonitoredItems => SubRequest::DeleteMonitoredItems(Element::read(
-                alloc, from,
-            )?),
-            SubRequestType::CreateSubscription => SubRequest::CreateSubscription(Element::read(
-                alloc, from,
-            )?),
-            SubRequestType::ModifySubscription => SubRequest::ModifySubscription(Element::read(
-                alloc, from,
-            )?),
-            SubRequestType::SetPublishingMode => SubRequest::SetPublishingMode(Element::read(
-                alloc, from,
-            )?),
-            SubRequestType::Publish => SubRequest::Publish(Element::read(alloc, from)?),
-            SubRequestType::Republish => SubRequest::Republish(Element::read(alloc, from)?),
-            SubRequestType::TransferSubscriptions => SubRequest::TransferSubscriptions(
-                Element::read(alloc, from)?,
+        match which {
+            SubRequestType::CreateMonitoredItems => read_as!(
+                SubRequest::CreateMonitoredItems,
+                alloc,
+                from
             ),
-            SubRequestType::DeleteSubscriptions => SubRequest::DeleteSubscriptions(Element::read(
-                alloc, from,
-            )?),
-        })
+            SubRequestType::SetMonitoringMode => read_as!(
+                SubRequest::SetMonitoringMode,
+                alloc,
+                from
+            ),
+            SubRequestType::DeleteMonitoredItems => read_as!(
+                SubRequest::DeleteMonitoredItems,
+                alloc,
+                from
+            ),
+            SubRequestType::CreateSubscription => read_as!(
+                SubRequest::CreateSubscription,
+                alloc,
+                from
+            ),
+            SubRequestType::ModifySubscription => read_as!(
+                SubRequest::ModifySubscription,
+                alloc,
+                from
+            ),
+            SubRequestType::SetPublishingMode => read_as!(
+                SubRequest::SetPublishingMode,
+                alloc,
+                from
+            ),
+            SubRequestType::Publish => read_as!(SubRequest::Publish, alloc, from),
+            SubRequestType::Republish => read_as!(SubRequest::Republish, alloc, from),
+            SubRequestType::TransferSubscriptions => read_as!(
+                SubRequest::TransferSubscriptions,
+                alloc,
+                from
+            ),
+            SubRequestType::DeleteSubscriptions => read_as!(
+                SubRequest::DeleteSubscriptions,
+                alloc,
+                from
+            ),
+        }
     }
 
     fn number(&self) -> u32 {
