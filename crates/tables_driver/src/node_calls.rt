@@ -109,38 +109,66 @@ fn id_of(alloc: Global, kind: &str, namespace: u16, name: &str) -> Result<NodeId
     }
 }
 
+/// The numbers that tell of a server: support, level, start, now and items.
+#[derive(Clone, Copy)]
+struct Numbers {
+    support: u8,
+    level: u8,
+    start: i64,
+    now: i64,
+    items: u8,
+}
+
+fn numbers_of(words: [&str; 5]) -> Result<Numbers, Stop> {
+    let [support, level, start, now, items] = words;
+    Ok(Numbers {
+        support: number(support)?,
+        level: number(level)?,
+        start: number(start)?,
+        now: number(now)?,
+        items: number(items)?,
+    })
+}
+
 /// The nodes of a server without members and changes.
-fn empty(alloc: Global, uri: UaText) -> Nodes {
+fn nodes_of(alloc: Global, uri: UaText, numbers: Numbers) -> Nodes {
+    let Numbers {
+        support,
+        level,
+        start,
+        now,
+        items,
+    } = numbers;
     Nodes {
         uri,
         members: Members::new(Vec::new(alloc)),
-        support: 0,
-        level: 0,
-        start: 0,
-        now: 0,
-        items: 0,
+        support,
+        level,
+        start,
+        now,
+        items,
         current: CurrentChanges::new(Vec::new(alloc)),
     }
 }
 
 impl NodeTable {
     pub(crate) fn new(alloc: Global) -> NodeTable {
+        let numbers = Numbers {
+            support: 0,
+            level: 0,
+            start: 0,
+            now: 0,
+            items: 0,
+        };
         NodeTable {
-            nodes: empty(alloc, UaText::null()),
+            nodes: nodes_of(alloc, UaText::null(), numbers),
         }
     }
 
     /// Makes the nodes anew, with the numbers of support, level, start, now and items.
     fn make(&mut self, alloc: Global, uri: &str, words: [&str; 5]) -> Result<(), Stop> {
-        let [support, level, start, now, items] = words;
-        let mut nodes = empty(alloc, UaText::null());
-        nodes.support = number(support)?;
-        nodes.level = number(level)?;
-        nodes.start = number(start)?;
-        nodes.now = number(now)?;
-        nodes.items = number(items)?;
-        nodes.uri = text(alloc, uri)?;
-        self.nodes = nodes;
+        let numbers = numbers_of(words)?;
+        self.nodes = nodes_of(alloc, text(alloc, uri)?, numbers);
         Ok(())
     }
 

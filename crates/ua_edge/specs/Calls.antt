@@ -29,7 +29,7 @@ counted c = record {
 }
 
 -- bytes in memory, to be taken or written, with their calls and the most bytes of one
-pub record Held : Type 0 where
+pub record InMemory : Type 0 where
   pub bytes : List ℕ
   pub most : ℕ
   pub calls : Counted

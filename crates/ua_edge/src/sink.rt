@@ -42,9 +42,9 @@ pub struct MemSink {
 
 impl Model for MemSink {
     ghost use Rattle.std.specs.Prelude.{ℕ, ◌<◌};
-    ghost use Rattle.ua_edge.specs.Calls.{Held};
+    ghost use Rattle.ua_edge.specs.Calls.{InMemory};
 
-    ghost Value = { Held };
+    ghost Value = { InMemory };
 
     ghost view = { λ s. record { bytes = s.bytes.items; most = s.most; calls = s.calls } };
 

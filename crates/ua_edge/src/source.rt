@@ -43,9 +43,9 @@ pub struct MemSource {
 
 impl Model for MemSource {
     ghost use Rattle.std.specs.Prelude.{ℕ, ◌≤◌, ◌<◌, length, drop};
-    ghost use Rattle.ua_edge.specs.Calls.{Held};
+    ghost use Rattle.ua_edge.specs.Calls.{InMemory};
 
-    ghost Value = { Held };
+    ghost Value = { InMemory };
 
     ghost view = { λ s. record { bytes = drop s.place s.bytes.items; most = s.most; calls = s.calls } };
 
