@@ -55,10 +55,10 @@ answer_by (Ok lines) = Ok (report_text (client_log lines))
 answer_by (Err fault) = Err fault
 
 -- what a function gives is this answer, seen as bytes; want of memory is free
-abbrev pub Answered : {A : Type 0} → (A → List ℕ) → Result A ReadError → Result (List ℕ) ScenarioFault → Type 0
-Answered shown (Ok text) answer = answer ≡ Ok (shown text)
-Answered shown (Err (errors.Fault fault)) answer = answer ≡ Err fault
-Answered shown (Err errors.OutOfMemory) answer = Unit {0}
+abbrev pub Renders : {A : Type 0} → (A → List ℕ) → Result A ReadError → Result (List ℕ) ScenarioFault → Type 0
+Renders shown (Ok text) answer = answer ≡ Ok (shown text)
+Renders shown (Err (errors.Fault fault)) answer = answer ≡ Err fault
+Renders shown (Err errors.OutOfMemory) answer = Unit {0}
 
 -- the report, or the first faulty line; no listeners are there yet
 abbrev pub answer_of : List ℕ → Result (List ℕ) ScenarioFault

@@ -4,7 +4,7 @@ ghost use Rattle.std.specs.Prelude.{IfOk};
 ghost use Rattle.scenario.specs.Scenario.{scenario_of};
 ghost use Rattle.show.specs.Value.{shown_value};
 ghost use Rattle.show.specs.Stream.{shown_stream};
-ghost use Rattle.uaset.specs.Answer.{Answered, answer_of};
+ghost use Rattle.uaset.specs.Answer.{Renders, answer_of};
 ghost use Rattle.uaset.specs.Commands.{Answered, Means, answer_to, replayed, shown};
 
 use crate::replay::replay;

@@ -1,7 +1,7 @@
 ghost use Rattle.std.specs.Prelude.{◌≡◌, ◌≤◌, IfOk, OnOk};
 ghost use Rattle.direct_world.specs.World.{after_all};
 ghost use Rattle.set_model.specs.Report.{report_text};
-ghost use Rattle.uaset.specs.Answer.{Answered, answer_of, client_log, size_of};
+ghost use Rattle.uaset.specs.Answer.{Renders, answer_of, client_log, size_of};
 
 use direct_world::World;
 use scenario::{Line, ReadError};
@@ -72,7 +72,7 @@ fn report_lines(alloc: Global, lines: &[Line]) -> Result<Vec<u8>, OutOfMemory>
 
 /// The report of a scenario's text, or its first faulty line.
 pub(crate) fn replay(alloc: Global, bytes: &[u8]) -> Result<Vec<u8>, ReadError>
-    ensures { Answered (λ text. text.items) result (answer_of bytes.now) }
+    ensures { Renders (λ text. text.items) result (answer_of bytes.now) }
 {
     let lines = scenario::read(alloc, bytes, 0)?;
     Ok(report_lines(alloc, lines.as_slice())?)
