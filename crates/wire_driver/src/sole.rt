@@ -14,8 +14,8 @@ pub struct Only;
 
 /// A ReadValueId as a body.
 #[derive(Debug, Drop)]
-pub enum Sole {
-    ReadValueId(ReadValueId),
+pub struct Sole {
+    value: ReadValueId,
 }
 
 impl Body for Sole {
@@ -23,15 +23,14 @@ impl Body for Sole {
     ghost use Rattle.std.proofs.lemmas.Bool.{ltb-true};
     ghost use Rattle.ua_structures.specs.Body.{Family, case};
     ghost use Rattle.ua_structures.specs.Structures.{a_read_value_id};
-    ghost use Rattle.wire_driver.specs.declared.sole.Sole.TheVariants as sole;
 
     type Service = Only;
 
-    ghost family = { record { all = record {} ∷ []; id = λ k. 628; cases = λ k. case a_read_value_id sole.ReadValueId; known = λ k. refl; small = λ k. ltb-true 628 (2 ^ 32) refl } };
+    ghost family = { record { all = record {} ∷ []; id = λ k. 628; cases = λ k. case a_read_value_id (λ v. record { value = v }); known = λ k. refl; small = λ k. ltb-true 628 (2 ^ 32) refl } };
 
     ghost number = { λ r. 628 };
 
-    ghost text = { λ r. a_read_value_id.written r.0 };
+    ghost text = { λ r. a_read_value_id.written r.value };
 
     fn service(id: u32) -> Option<Only> {
         if id == NUMBER { Some(Only) } else { None }
@@ -42,7 +41,8 @@ impl Body for Sole {
         which: Only,
         from: &mut Cursor<'_>,
     ) -> Result<Sole, ValueFault> {
-        Ok(Sole::ReadValueId(Element::read(alloc, from)?))
+        let value = Element::read(alloc, from)?;
+        Ok(Sole { value })
     }
 
     fn number(&self) -> u32 {
@@ -50,8 +50,6 @@ impl Body for Sole {
     }
 
     fn put_structure(&self, to: &mut Vec<u8>) -> Result<(), OutOfMemory> {
-        match self {
-            Sole::ReadValueId(value) => value.put(to),
-        }
+        self.value.put(to)
     }
 }
