@@ -5,48 +5,21 @@ ghost use Rattle.std.specs.Prelude.{◌≤◌, length, IfSome};
 use crate::digits::{bytes_of, number, put_bytes};
 use crate::frames::put_bar;
 use crate::stop::Stop;
-use crate::telling::{BEFORE, Verb, put_body_fault, tell_read};
+use crate::telling::{BEFORE, put_body_fault};
 use std::alloc::Global;
 use ua_base::OutOfMemory;
 use ua_chunks::{
     Assembler, Greeting, Kind, Sender, ack_body, err_body, hello_body, write_ack, write_err,
     write_frame, write_hello,
 };
-use ua_session_msgs::SignatureData;
 use ua_structures::{BodyFault, BodyType, RequestHeader, ResponseHeader, read_type};
-use ua_sub_msgs::NotificationMessage;
-use ua_values::{Cursor, Element, NodeId, UaBytes, UaText, ValueFault, read_node_id};
+use ua_values::{Element, NodeId, UaBytes, UaText, ValueFault, read_node_id};
 
 /// How many bytes the body of a frame may have.
 const MOST_BODY: usize = 65_528;
 
 /// How many bytes the URL of a HEL may have.
 const MOST_URL: usize = 4091;
-
-// ---- copies
-
-/// Writes a copy of the message that stands at the front of the bytes, and tells whether there is such a message.
-pub(crate) fn tell_copied_message(
-    alloc: Global,
-    name: &str,
-    bytes: &[u8],
-    to: &mut String,
-) -> Result<bool, OutOfMemory> {
-    if name != "NotificationMessage" {
-        return Ok(false);
-    }
-    let mut from = Cursor::new(bytes);
-    let read = NotificationMessage::read(alloc, &mut from);
-    tell_read(
-        alloc,
-        Verb::Again,
-        &from.sized(read),
-        bytes,
-        &|value: &NotificationMessage, to: &mut Vec<u8>| value.copy(alloc)?.put(to),
-        to,
-    )?;
-    Ok(true)
-}
 
 // ---- equality
 
@@ -354,7 +327,6 @@ pub(crate) fn answer_call(alloc: Global, words: &[&str], to: &mut String) -> Res
         ["response_header", timestamp, handle, status] => {
             answer_response_header(alloc, [timestamp, handle, status], to)
         }
-        ["blank_signature"] => Ok(put_structure(alloc, &SignatureData::blank(), to)?),
         _ => answer_framing(alloc, words, to),
     }
 }

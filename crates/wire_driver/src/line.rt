@@ -4,15 +4,11 @@ ghost use Rattle.std.specs.Prelude.{◌<◌, IfOk};
 
 use crate::calls::answer_call;
 use crate::digits::{bytes_of, number};
-use crate::elements::tell_within;
 use crate::frames::{tell_count, tell_cuts, tell_frames};
-use crate::fronts::tell_fronts;
-use crate::kinds::tell_kind;
+use crate::greetings::tell_greeting;
 use crate::messages::{tell_passed, tell_puts, tell_steps, tell_stream};
 use crate::stop::Stop;
 use crate::telling::Verb;
-use crate::types::tell_type;
-use crate::values::tell_copied;
 use std::alloc::Global;
 
 /// A number of bytes that is not 0.
@@ -41,13 +37,10 @@ fn answer_bytes(
     to: &mut String,
 ) -> Result<(), Stop> {
     match verb {
-        "copy" => known(tell_copied(alloc, name, bytes, to)?),
-        "fronts" => known(tell_fronts(alloc, name, bytes, to)?),
         "frames" => Ok(tell_frames(alloc, piece_of(name)?, [bytes, &[]], to)?),
         "count" => Ok(tell_count(alloc, piece_of(name)?, bytes, to)?),
-        "within" => Ok(tell_within(alloc, number(name)?, bytes, to)?),
         _ => match Verb::of(verb) {
-            Some(verb) => known(tell_type(alloc, verb, name, bytes, to)?),
+            Some(verb) => known(tell_greeting(alloc, verb, name, bytes, to)?),
             None => Err(Stop::BadLine),
         },
     }
@@ -191,7 +184,6 @@ pub(crate) fn answer(alloc: Global, words: &[&str], to: &mut String) -> Result<(
     match words {
         ["cuts", digits @ ..] => answer_cuts(alloc, digits, to),
         ["call", call @ ..] => answer_call(alloc, call, to),
-        ["kind", id] => tell_kind(alloc, id, to),
         ["stream", channel, token, cut, digits @ ..] => {
             answer_stream(alloc, [channel, token, cut], digits, to)
         }

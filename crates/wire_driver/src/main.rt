@@ -1,23 +1,16 @@
-//! Reads lines from standard input and answers each before it reads the next: what the codecs of this repository make of bytes.
+//! Reads lines from standard input and answers each before it reads the next: what frames, chunks and
+//! greetings of this repository are made of bytes, and bytes of them.
 //! It is for the cases and the benches, and promises nothing. The rows of `cases/` show the lines.
 #![tactic(auto)]
 
-mod bodies;
 mod calls;
 mod digits;
-mod elements;
 mod frames;
-mod fronts;
 mod greetings;
-mod kinds;
 mod line;
 mod messages;
-mod shown;
-mod sole;
 mod stop;
 mod telling;
-mod types;
-mod values;
 
 use line::answer;
 use std::alloc::Global;

@@ -120,34 +120,6 @@ pub(crate) fn tell<T: Debug, W: Fn(&T, &mut Vec<u8>) -> Result<(), OutOfMemory>>
     }
 }
 
-/// The first so many bytes, or all.
-fn front(bytes: &[u8], size: usize) -> &[u8] {
-    match bytes.split_at_checked(size) {
-        Some((front, _)) => front,
-        None => bytes,
-    }
-}
-
-/// Tells what was read at the front of these bytes, behind how many it takes; or the fault.
-pub(crate) fn tell_read<T: Debug, W: Fn(&T, &mut Vec<u8>) -> Result<(), OutOfMemory>>(
-    alloc: Global,
-    verb: Verb,
-    read: &Result<(T, usize), ValueFault>,
-    bytes: &[u8],
-    write: &W,
-    to: &mut String,
-) -> Result<(), OutOfMemory>
-    requires { W.IsAlwaysCallable write.now }
-{
-    match read {
-        Ok((value, size)) => {
-            to.push_str(&format!(in alloc; "{size}")?)?;
-            tell(alloc, verb, value, front(bytes, *size), write, to)
-        }
-        Err(fault) => put_value_fault(alloc, *fault, to),
-    }
-}
-
 /// Tells what was read of the whole of these bytes, behind a word for it; or the fault.
 pub(crate) fn tell_whole<T: Debug, W: Fn(&T, &mut Vec<u8>) -> Result<(), OutOfMemory>>(
     alloc: Global,
