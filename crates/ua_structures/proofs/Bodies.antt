@@ -20,7 +20,7 @@ use Rattle.ua_values.proofs.TypeCodecs.{node_codec}
 use Rattle.ua_values.proofs.Answers.{is_read}
 use Rattle.ua_structures.specs.declared.body.BodyFault.{BodyFault}
 use Rattle.ua_structures.specs.declared.body.BodyFault.TheVariants as body
-use Rattle.ua_structures.specs.Body.{type_number, type_id, Case, Family, is_body, is_foreign, Opened, Unknown, Known, opened, service, cut_behind, opened_cut, type_at, behind_at, opened_at, judged_opened, judged, finished, body_at, Answers, IsBadBody, IsBodyRead, held_bytes, content_at, object_at, IsBadContent, IsContentRead}
+use Rattle.ua_structures.specs.Body.{type_number, type_id, Case, Family, is_body, is_foreign, Opened, Unknown, Known, opened, service, cut_behind, opened_cut, type_at, behind_at, opened_at, judged_opened, taken_whole, finished, body_at, Answers, IsBadBody, IsBodyRead, held_bytes, content_at, object_at, IsBadContent, IsContentRead}
 
 -- ---- which structure a number says
 
@@ -265,7 +265,7 @@ no_content_said family x k place code type_is is_so (Err body.OutOfMemory) e = t
 
 held_said : {K A : Type 0} (family : Family K A) (x : ExtensionObject) (k : K) (bytes : List ℕ) → type_number x.type_id ≡ family.id k → held_bytes x.body ≡ Some bytes
     → (r : Result (A × Input) Fault) → (family.cases k).at (input 0 bytes) ≡ r
-    → (result : Result A BodyFault) → Answers result (judged (length bytes) r) → IsContentRead family x result
+    → (result : Result A BodyFault) → Answers result (taken_whole (length bytes) r) → IsContentRead family x result
 held_said family x k bytes type_is held (Ok y) e result given =
     let one = family.cases k in
     whole_said family x k bytes y.0 y.1.place (ltb y.1.place (length bytes)) type_is held refl (is_read one.spells one.cut one.at one.reads bytes (Ok (y.0, y.1.place)) (ap sized e)) result given

@@ -10,7 +10,7 @@ use Rattle.ua_values.proofs.WrittenLemmas.{node_spelled, in_turn}
 use Rattle.ua_structures.specs.declared.body.BodyFault.{BodyFault}
 use Rattle.ua_structures.specs.declared.body.BodyFault.TheVariants as body
 use Rattle.ua_structures.specs.declared.front.BodyType.{BodyType}
-use Rattle.ua_structures.specs.Body.{type_number, type_id, type_at, behind_at, service, judged_type, IsForeignUnknown, Family, is_body, Opened, Known, opened, opened_at, whole, judged, judged_opened, body_at, written_type, Put, written_by, AreLawful, content_at, object_at, holds, object_by, AreHeld}
+use Rattle.ua_structures.specs.Body.{type_number, type_id, type_at, behind_at, service, judged_type, IsForeignUnknown, Family, is_body, Opened, Known, opened, opened_at, whole, taken_whole, judged_opened, body_at, written_type, Put, written_by, AreLawful, content_at, object_at, holds, object_by, AreHeld}
 use Rattle.ua_structures.proofs.Bodies.{type_reads, opened_reads, is_known}
 
 -- what is written of a value that keeps the rules is a spelling of it
@@ -101,7 +101,7 @@ held_again {A = A} family k a text spelled =
     let at = (family.cases k).at in
     let read : at (input 0 (text ++ [])) ≡ Ok (a, input (0 + length text) []) = (family.cases k).reads.again 0 text [] a spelled in
     let here : at (input 0 text) ≡ Ok (a, input (0 + length text) []) = ap (λ (l : List ℕ). at (input 0 l)) (sym (append-nil text)) ∙ read in
-    ap (judged (length text)) here ∙ nothing_left (length text) (0 + length text) a (omega arith)
+    ap (taken_whole (length text)) here ∙ nothing_left (length text) (0 + length text) a (omega arith)
 
 object_again : {K A : Type 0} (family : Family K A) (puts : A → Put K) → Spells family puts → (a : A) → (puts a).keeps → object_at family (object_by family puts a) ≡ Ok a
 object_again family puts spelled a kept =

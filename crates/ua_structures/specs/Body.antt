@@ -114,9 +114,9 @@ abbrev pub failed : {A : Type 0} → ℕ → Fault → Result A BodyFault
 failed long Short = Err (body.Bad long bad_decoding_error)
 failed long (Bad place code) = Err (body.Bad place code)
 
-abbrev pub judged : {A : Type 0} → ℕ → Result (A × Input) Fault → Result A BodyFault
-judged long (Ok x) = whole long x.0 x.1.place
-judged long (Err fault) = failed long fault
+abbrev pub taken_whole : {A : Type 0} → ℕ → Result (A × Input) Fault → Result A BodyFault
+taken_whole long (Ok x) = whole long x.0 x.1.place
+taken_whole long (Err fault) = failed long fault
 
 abbrev pub judged_opened : {A : Type 0} → ℕ → Result (Opened A × Input) Fault → Result A BodyFault
 judged_opened long (Ok (Known a, after)) = whole long a after.place
@@ -229,7 +229,7 @@ held_bytes extension.Absent = None
 abbrev pub content_at : {K A : Type 0} → Family K A → ℕ → Option K → Option (List ℕ) → Result A BodyFault
 content_at family n None held = Err (body.Unknown n)
 content_at family n (Some k) None = Err (body.Bad 0 bad_decoding_error)
-content_at family n (Some k) (Some bytes) = judged (length bytes) ((family.cases k).at (input 0 bytes))
+content_at family n (Some k) (Some bytes) = taken_whole (length bytes) ((family.cases k).at (input 0 bytes))
 
 abbrev pub object_at : {K A : Type 0} → Family K A → ExtensionObject → Result A BodyFault
 object_at family x = content_at family (type_number x.type_id) (service family (type_number x.type_id)) (held_bytes x.body)

@@ -3,7 +3,7 @@ ghost use Rattle.std.specs.Option.{option_copied};
 ghost use Rattle.ua_values.specs.Reading.{Moves, input};
 ghost use Rattle.ua_values.specs.declared.node.NodeId.TheVariants as node;
 ghost use Rattle.ua_structures.specs.Body.{Family, service, type_number, type_at, body_fault, finished, body_at};
-ghost use Rattle.ua_structures.specs.Body.{object_at, written_body, object_of, judged, held_bytes};
+ghost use Rattle.ua_structures.specs.Body.{object_at, written_body, object_of, taken_whole, held_bytes};
 ghost use Rattle.ua_structures.specs.Body.{Answers, IsBodyRead, IsContentRead};
 
 use std::alloc::Global;
@@ -162,7 +162,7 @@ pub fn write_body<B: Body>(value: &B, to: &mut Vec<u8>) -> Result<(), OutOfMemor
 
 /// Reads the structure of an ExtensionObject's bytes, all of them.
 fn read_held<B: Body>(alloc: Global, which: B::Service, bytes: &[u8]) -> Result<B, BodyFault>
-    ensures { Answers result (judged (length bytes.now) ((B.family.cases which).at (input 0 bytes.now))) }
+    ensures { Answers result (taken_whole (length bytes.now) ((B.family.cases which).at (input 0 bytes.now))) }
 {
     let mut held = Cursor::new(bytes);
     let read = B::read_structure(alloc, which, &mut held);
