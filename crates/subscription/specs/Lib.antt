@@ -1,0 +1,5 @@
+pub mod State
+pub mod Items
+pub mod Message
+pub mod Cycle
+pub mod Calls

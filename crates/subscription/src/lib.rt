@@ -1,0 +1,13 @@
+//! One subscription of a server: its monitored items, its publishing timer, its messages and those that it keeps
+//! (OPC 10000-4, 5.12.1 and 5.13.1). It knows no sessions and no bytes of messages around its own.
+#![tactic(auto)]
+
+mod cycle;
+mod item;
+mod message;
+mod publishing;
+mod spec;
+
+pub use cycle::Cycle;
+pub use publishing::Subscription;
+pub use spec::{ItemSpec, MOST_ITEMS, SubSpec};
