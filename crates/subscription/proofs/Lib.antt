@@ -1,2 +1,5 @@
+mod Finding
+mod Rising
 mod Rows
+mod Streaming
 mod Telling

@@ -4,10 +4,12 @@
 
 mod cycle;
 mod item;
+mod laws;
 mod message;
 mod publishing;
 mod spec;
 
 pub use cycle::Cycle;
+pub use laws::{entries_leave_in_order, ids_rise};
 pub use publishing::Subscription;
 pub use spec::{ItemSpec, MOST_ITEMS, SubSpec};
