@@ -105,7 +105,6 @@ found_within id low high (first ∷ items) item rises is =
         let above = both.0 in
         (omega arith, both.1)
 
-
 entries_split : (id : ℕ) (told more : List Told) → entries_of id (told ++ more) ≡ entries_of id told ++ entries_of id more
 entries_split id told more = ap (map (λ (one : Told). one.entry)) (filter-append (λ (one : Told). one.id == id) told more)
     ∙ map-append (λ (one : Told). one.entry) (filter (λ (one : Told). one.id == id) told) _
@@ -148,6 +147,7 @@ found_left id room low high (first ∷ items) item rises is =
   where
     rest : List Told
     rest = told (room - count_told room first) items
+
     by_test : (b : Bool) → has_id id first ≡ b → cond b (Some (left_of room first)) (item_of id (left (room - count_told room first) items)) ≡ Some item
         → (item_of id (left (room - count_told room first) items) ≡ Some item → WasTold id items (entries_of id rest) item)
         → WasTold id (first ∷ items) (entries_of id (told room (first ∷ items))) item

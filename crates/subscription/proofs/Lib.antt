@@ -1,5 +1,7 @@
+mod Counting
 mod Finding
 mod Rising
 mod Rows
+mod Sent
 mod Streaming
 mod Telling

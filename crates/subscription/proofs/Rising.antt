@@ -71,9 +71,10 @@ fed_id change item = by_test (samples change item)
 rising_map : (f : ItemState → ItemState) → ((item : ItemState) → (f item).id ≡ item.id)
     → (low high : ℕ) (items : List ItemState) → AreRising low items high → AreRising low (map f items) high
 rising_map f same low high [] h = h
-rising_map f same low high (item ∷ items) h =
-    (subst (λ id. low < id) (sym (same item)) h.0,
-    subst (λ id. AreRising id (map f items) high) (sym (same item)) (rising_map f same item.id high items h.1))
+rising_map f same low high (item ∷ items) h = (
+  subst (λ id. low < id) (sym (same item)) h.0,
+  subst (λ id. AreRising id (map f items) high) (sym (same item)) (rising_map f same item.id high items h.1),
+)
 
 rising_lower : (low lower high : ℕ) (items : List ItemState) → lower ≤ low → AreRising low items high → AreRising lower items high
 rising_lower low lower high [] less h = omega arith

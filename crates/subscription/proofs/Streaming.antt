@@ -32,9 +32,10 @@ get_more (c ∷ changes) more (suc k) change is = get_more changes more k change
 at_more : (size : ℕ) (changes more : List Change) (before : ℕ) (places : List ℕ) (entries : List Entry)
     → AreAt size changes before places entries → AreAt size (changes ++ more) before places entries
 at_more size changes more before [] [] h = h
-at_more size changes more before (place ∷ places) (entry ∷ entries) h =
-    (record { change = get_more changes more (place - 1) entry.change h.0.change; later = h.0.later; marked = h.0.marked },
-    at_more size changes more place places entries h.1)
+at_more size changes more before (place ∷ places) (entry ∷ entries) h = (
+  record { change = get_more changes more (place - 1) entry.change h.0.change; later = h.0.later; marked = h.0.marked },
+  at_more size changes more place places entries h.1,
+)
 at_more size changes more before [] (entry ∷ entries) h = absurd h
 at_more size changes more before (place ∷ places) [] h = absurd h
 
@@ -122,46 +123,58 @@ pub record Tells (id : ℕ) (items : List ItemState) (stream : ItemStream) : Typ
 
 tells_removed : (id other : ℕ) (items : List ItemState) (stream : ItemStream) → Tells id items stream → (b : Bool) → (other == id) ≡ b
     → Tells id (without_item other items) stream
-tells_removed id other items stream h true test = record { tells = λ item found.
-    let same : other ≡ id = grind (arith, nat_tests) in
-    let none : item_of id (without_item other items) ≡ None = ap (λ n. item_of id (without_item n items)) same ∙ none_left id items in
-    let both : ◌≡◌ {A = Option ItemState} None (Some item) = sym none ∙ found in
-    absurd cc }
-tells_removed id other items stream h false test = record { tells = λ item found.
-    let apart : other ≢ id = λ same. absurd (grind (arith, nat_tests)) in
-    h.tells item (sym (others_left id other items apart) ∙ found) }
+tells_removed id other items stream h true test = record {
+  tells = λ item found.
+      let same : other ≡ id = grind (arith, nat_tests) in
+      let none : item_of id (without_item other items) ≡ None = ap (λ n. item_of id (without_item n items)) same ∙ none_left id items in
+      let both : ◌≡◌ {A = Option ItemState} None (Some item) = sym none ∙ found in
+      absurd cc;
+}
+tells_removed id other items stream h false test = record {
+  tells = λ item found.
+      let apart : other ≢ id = λ same. absurd (grind (arith, nat_tests)) in
+      h.tells item (sym (others_left id other items apart) ∙ found);
+}
 
 tells_fed : (id : ℕ) (change : Change) (items : List ItemState) (stream : ItemStream) → Tells id items stream
     → Tells id (map (fed_item change) items) (fed_stream (item_of id items) change stream)
-tells_fed id change items stream h = record { tells = λ item found.
-    let was = found_mapped id (fed_item change) (fed_id change) items item found in
-    subst (λ known. IsTold item.queue (fed_stream known change stream)) (sym was.found)
-    (subst (λ (one : ItemState). IsTold one.queue (fed_stream (Some was.before) change stream)) (sym was.is)
-    (fed_told change was.before stream (h.tells was.before was.found))) }
+tells_fed id change items stream h = record {
+  tells = λ item found.
+      let was = found_mapped id (fed_item change) (fed_id change) items item found in
+      subst (λ known. IsTold item.queue (fed_stream known change stream)) (sym was.found)
+      (subst (λ (one : ItemState). IsTold one.queue (fed_stream (Some was.before) change stream)) (sym was.is)
+      (fed_told change was.before stream (h.tells was.before was.found)));
+}
 
 tells_moded : (id other : ℕ) (mode : Mode) (current : Option Change) (items : List ItemState) (stream : ItemStream) → Tells id items stream
     → (b : Bool) → (other == id) ≡ b
     → Tells id (map (moded_if other mode current) items) (cond b (moded_stream (item_of id items) mode current stream) stream)
-tells_moded id other mode current items stream h true test = record { tells = λ item found.
-    let was = found_mapped id (moded_if other mode current) (moded_id other mode current) items item found in
-    let own = found_id id items was.before was.found in
-    let hit : has_id other was.before ≡ true = grind (arith, nat_tests) in
-    let is : item ≡ with_mode mode current was.before = was.is ∙ ap (λ b. cond b (with_mode mode current was.before) was.before) hit in
-    subst (λ known. IsTold item.queue (moded_stream known mode current stream)) (sym was.found)
-    (subst (λ (one : ItemState). IsTold one.queue (stream_in was.before.mode mode current stream)) (sym is)
-    (moded_told was.before.mode mode current was.before.queue stream (h.tells was.before was.found))) }
-tells_moded id other mode current items stream h false test = record { tells = λ item found.
-    let was = found_mapped id (moded_if other mode current) (moded_id other mode current) items item found in
-    let own = found_id id items was.before was.found in
-    let miss : has_id other was.before ≡ false = grind (arith, nat_tests) in
-    let is : item ≡ was.before = was.is ∙ ap (λ b. cond b (with_mode mode current was.before) was.before) miss in
-    subst (λ (one : ItemState). IsTold one.queue stream) (sym is) (h.tells was.before was.found) }
+tells_moded id other mode current items stream h true test = record {
+  tells = λ item found.
+      let was = found_mapped id (moded_if other mode current) (moded_id other mode current) items item found in
+      let own = found_id id items was.before was.found in
+      let hit : has_id other was.before ≡ true = grind (arith, nat_tests) in
+      let is : item ≡ with_mode mode current was.before = was.is ∙ ap (λ b. cond b (with_mode mode current was.before) was.before) hit in
+      subst (λ known. IsTold item.queue (moded_stream known mode current stream)) (sym was.found)
+      (subst (λ (one : ItemState). IsTold one.queue (stream_in was.before.mode mode current stream)) (sym is)
+      (moded_told was.before.mode mode current was.before.queue stream (h.tells was.before was.found)));
+}
+tells_moded id other mode current items stream h false test = record {
+  tells = λ item found.
+      let was = found_mapped id (moded_if other mode current) (moded_id other mode current) items item found in
+      let own = found_id id items was.before was.found in
+      let miss : has_id other was.before ≡ false = grind (arith, nat_tests) in
+      let is : item ≡ was.before = was.is ∙ ap (λ b. cond b (with_mode mode current was.before) was.before) miss in
+      subst (λ (one : ItemState). IsTold one.queue stream) (sym is) (h.tells was.before was.found);
+}
 
 tells_added : (id : ℕ) (spec : ItemSpec) (current : Option Change) (s : SubState) (stream : ItemStream) → 1 ≤ spec.queue
     → AreRising 0 s.items s.given → Tells id s.items stream
     → Tells id (s.items ++ new_item (s.given + 1) spec current ∷ []) (stream_after id (Add spec current) s stream)
-tells_added id spec current s stream least rises h = record { tells = λ item found.
-    by_place item (found_added id s.items (new_item (s.given + 1) spec current) item found) }
+tells_added id spec current s stream least rises h = record {
+  tells = λ item found.
+      by_place item (found_added id s.items (new_item (s.given + 1) spec current) item found);
+}
   where
     by_place : (item : ItemState) → (item_of id s.items ≡ Some item) ⊎ ((item_of id s.items ≡ None) × (s.given + 1 ≡ id) × (item ≡ new_item (s.given + 1) spec current))
         → IsTold item.queue (cond (s.given + 1 == id) (stream_in Disabled spec.mode current no_stream) stream)
@@ -178,11 +191,13 @@ tells_added id spec current s stream least rises h = record { tells = λ item fo
 
 tells_published : (id : ℕ) (s : SubState) (stream : ItemStream) → AreRising 0 s.items s.given → Tells id s.items stream
     → Tells id (items_left s) (record stream { given = stream.given ++ entries_of id (entries_told s) })
-tells_published id s stream rises h = record { tells = λ item found.
-    let was = found_items_left id s item rises found in
-    subst (λ entries. IsTold item.queue (record stream { given = stream.given ++ entries })) (sym was.told)
-    (subst (λ (one : ItemState). IsTold one.queue (record stream { given = stream.given ++ take was.count was.before.queue.entries })) (sym was.is)
-    (told_over was.count was.before.queue.oldest was.before.queue.size was.before.queue.entries stream (h.tells was.before was.found))) }
+tells_published id s stream rises h = record {
+  tells = λ item found.
+      let was = found_items_left id s item rises found in
+      subst (λ entries. IsTold item.queue (record stream { given = stream.given ++ entries })) (sym was.told)
+      (subst (λ (one : ItemState). IsTold one.queue (record stream { given = stream.given ++ take was.count was.before.queue.entries })) (sym was.is)
+      (told_over was.count was.before.queue.oldest was.before.queue.size was.before.queue.entries stream (h.tells was.before was.found)));
+}
 
 tells_after : (id : ℕ) (call : Call) (s : SubState) (stream : ItemStream) → IsAllowed call → AreRising 0 s.items s.given
     → Tells id s.items stream → Tells id (after call s).items (stream_after id call s stream)

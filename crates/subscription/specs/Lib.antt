@@ -5,3 +5,5 @@ pub mod Cycle
 pub mod Calls
 pub mod History
 pub mod Streams
+pub mod Sendings
+pub mod Counts

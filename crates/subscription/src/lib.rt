@@ -10,6 +10,9 @@ mod publishing;
 mod spec;
 
 pub use cycle::Cycle;
-pub use laws::{entries_leave_in_order, ids_rise};
+pub use laws::{
+    entries_leave_in_order, ids_rise, keep_alives_are_exact, lifetimes_are_exact,
+    messages_are_numbered, sent_messages_are_kept,
+};
 pub use publishing::Subscription;
 pub use spec::{ItemSpec, MOST_ITEMS, SubSpec};
