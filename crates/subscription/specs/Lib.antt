@@ -7,3 +7,4 @@ pub mod History
 pub mod Streams
 pub mod Sendings
 pub mod Counts
+pub mod Seen

@@ -1,5 +1,5 @@
 //! What any calls on a subscription come to. Nothing here runs.
-ghost use Rattle.std.specs.Prelude.{◌≡◌, ◌≤◌, ◌+◌, ◌↔◌, [], ℕ, ℤ, List, Some, None, length, true, false};
+ghost use Rattle.std.specs.Prelude.{◌≡◌, ◌≤◌, ◌+◌, ◌↔◌, FitsSigned, map, [], ℕ, ℤ, List, Some, None, length, true, false};
 ghost use Rattle.retransmit.specs.History.{acknowledged, available};
 ghost use Rattle.retransmit.specs.Kept.{message_of};
 ghost use Rattle.ua_sub_msgs.specs.declared.notification.NotificationMessage.{NotificationMessage};
@@ -9,7 +9,11 @@ ghost use Rattle.subscription.specs.Items.{item_of};
 ghost use Rattle.subscription.specs.Calls.{entries_told, next_message, published};
 ghost use Rattle.subscription.specs.Counts.{Lasts, has_begun, silent, unserved};
 ghost use Rattle.subscription.specs.Cycle.{cycled, has_something, row_of};
+ghost use Rattle.subscription.specs.Message.{has_source, message_of as message_with};
 ghost use Rattle.subscription.specs.History.{AreAllowed, Call, state_of};
+ghost use Rattle.std.specs.Int.{w64};
+ghost use Rattle.subscription.specs.Items.{Told};
+ghost use Rattle.subscription.specs.Seen.{AreTellable, entries_seen, entry_in, seen};
 ghost use Rattle.subscription.specs.Sendings.{data_count, data_sent, number_of, sendings};
 ghost use Rattle.subscription.specs.State.{ItemState, SubState};
 ghost use Rattle.subscription.specs.Streams.{AreRising, IsTold, stream_of};
@@ -70,4 +74,13 @@ pub fn keep_alives_are_exact()
     ensures later { (spec : SubSpec) (start : ℕ) (calls : List Call) → let s = state_of spec start calls in
         has_something s ≡ false → has_begun calls ≡ true
         → (row_of true s ≡ KeepAlive) ↔ (s.spec.keep_alive ≤ silent spec start calls + 1) }
+{}
+
+/// A message shows its entries: under which handle each stands, when its value changed, the value and the mark; where the
+/// handle is the number of the item's node and the source's time is told, that is the entry itself.
+pub fn entries_are_told()
+    ensures told { (number : ℕ) (now : ℤ) (entries : List Told) → FitsSigned w64 now → AreTellable entries
+        → length entries ≤ 65536 → entries_seen (message_with number now entries) ≡ map seen entries }
+    ensures whole { (one : Told) → has_source one.stamps ≡ true → one.handle ≡ one.entry.change.item
+        → entry_in (seen one) ≡ Some one.entry }
 {}

@@ -11,7 +11,7 @@ mod spec;
 
 pub use cycle::Cycle;
 pub use laws::{
-    entries_leave_in_order, ids_rise, keep_alives_are_exact, lifetimes_are_exact,
+    entries_are_told, entries_leave_in_order, ids_rise, keep_alives_are_exact, lifetimes_are_exact,
     messages_are_numbered, sent_messages_are_kept,
 };
 pub use publishing::Subscription;
