@@ -1,5 +1,5 @@
 -- The counts of cycles are those of the calls.
-use Rattle.std.proofs.Common.{◌≡◌, ◌≢◌, ℕ, ℤ, ◌+◌, ◌<◌, ◌≤◌, List, [], ◌∷◌, Bool, true, false, cond, refl, sym, ap, ◌∙◌, subst, arith}
+use Rattle.std.proofs.Common.{◌≡◌, ◌≢◌, ℕ, ℤ, ◌+◌, ◌≤◌, List, [], ◌∷◌, Bool, true, false, cond, refl, sym, ap, ◌∙◌, arith}
 use Rattle.std.specs.Prelude.{◌↔◌, ◌||◌, not, nat_le}
 use Rattle.std.proofs.lemmas.Bool.Decides.{nat_tests}
 use Rattle.subscription.specs.declared.spec.SubSpec.{SubSpec}
@@ -9,7 +9,7 @@ use Rattle.subscription.specs.State.{SubState}
 use Rattle.subscription.specs.Items.{Told}
 use Rattle.subscription.specs.Calls.{after_sending, entries_told, items_left, published, sent_with}
 use Rattle.subscription.specs.Cycle.{after_row, cycled, has_something, is_forgotten, is_silent, life_after, row_of, wants}
-use Rattle.subscription.specs.History.{Call, Add, Remove, SetMode, Feed, Timer, Publish, Acknowledge, Modify, SetEnabled, Moved, after, state_of}
+use Rattle.subscription.specs.History.{Call, Add, Remove, SetMode, Feed, Timer, Publish, Acknowledge, Modify, SetEnabled, Moved, state_of}
 use Rattle.subscription.specs.Counts.{Lasts, has_begun, silent, unserved, with_quiet}
 
 never_ends : (has wanted : Bool) → cond has Notify (cond wanted KeepAlive Quiet) ≡ Expired → ⊥

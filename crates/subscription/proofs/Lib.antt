@@ -4,5 +4,6 @@ mod Rising
 mod Rows
 mod Seeing
 mod Sent
+mod Sourcing
 mod Streaming
 mod Telling

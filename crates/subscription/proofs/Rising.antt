@@ -1,16 +1,13 @@
 -- Ids rise, and the item of an id is the one that was found before a call.
-use Rattle.std.proofs.Common.{◌≡◌, ◌≢◌, ℕ, ℤ, zero, suc, ◌+◌, ◌-◌, ◌<◌, ◌≤◌, ◌==◌, List, [], ◌∷◌, ◌++◌, Bool, true, false, not, cond, map, filter, Option, Some, None, refl, sym, ap, ◌∙◌, subst, arith, if◌then◌else◌}
-use Rattle.std.specs.List.{find}
-use Rattle.std.proofs.lemmas.Bool.Decides.{nat_tests}
+use Rattle.std.proofs.Common.{◌≡◌, ℕ, ℤ, ◌+◌, ◌-◌, ◌<◌, ◌≤◌, List, [], ◌∷◌, ◌++◌, Bool, true, false, not, cond, map, Option, refl, sym, subst, arith}
 use Rattle.ua_base.specs.declared.modes.Mode.{Mode}
 use Rattle.set_model.specs.declared.source.Change.{Change}
 use Rattle.item_queue.specs.Queue.{pushed}
 use Rattle.subscription.specs.declared.spec.SubSpec.{SubSpec}
-use Rattle.subscription.specs.declared.spec.ItemSpec.{ItemSpec}
 use Rattle.subscription.specs.declared.cycle.Cycle.{Cycle}
 use Rattle.subscription.specs.declared.cycle.Cycle.TheVariants.{Quiet, Notify, KeepAlive, Late, Expired}
 use Rattle.subscription.specs.State.{ItemState, SubState}
-use Rattle.subscription.specs.Items.{Told, count_told, fed_item, has_id, item_of, left, left_of, moded_if, new_item, samples, told, with_mode, without_item}
+use Rattle.subscription.specs.Items.{Told, count_told, fed_item, has_id, left, moded_if, new_item, samples, with_mode, without_item}
 use Rattle.subscription.specs.Cycle.{after_row, cycled, row_of}
 use Rattle.subscription.specs.Calls.{after_sending, entries_told, items_left, published, sent_with}
 use Rattle.subscription.specs.History.{Call, Add, Remove, SetMode, Feed, Timer, Publish, Acknowledge, Modify, SetEnabled, Moved, after, state_of}

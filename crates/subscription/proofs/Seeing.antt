@@ -1,32 +1,30 @@
 -- The entries of a message are read from it again.
-use Rattle.std.proofs.Common.{◌≡◌, ℕ, ℤ, ◌<◌, ◌≤◌, ◌==◌, List, [], ◌∷◌, ◌++◌, Bool, true, false, cond, map, length, Option, Some, None, Result, Ok, Err, refl, sym, ap, ap₂, ◌∙◌, subst, arith}
+use Rattle.std.proofs.Common.{◌≡◌, ℕ, ℤ, ◌<◌, ◌≤◌, ◌==◌, List, [], ◌∷◌, ◌++◌, Bool, true, false, cond, map, length, Some, None, refl, sym, ap, ap₂, ◌∙◌, subst, arith}
 use Rattle.std.specs.Prelude.{FitsSigned, IfSome, ◌^◌}
 use Rattle.std.specs.Int.{w64}
 use Rattle.std.specs.List.{AllByRecursion}
 use Rattle.std.proofs.lemmas.Bool.Decides.{nat_tests}
 use Rattle.std.proofs.lemmas.List.{append-nil, length-map}
-use Rattle.set_model.specs.declared.stamp.Stamp.{Stamp}
 use Rattle.set_model.specs.Source.{stamp_of}
 use Rattle.item_queue.specs.declared.queue.Entry.{Entry}
 use Rattle.ua_base.specs.declared.modes.Timestamps.{Timestamps}
-use Rattle.ua_values.specs.Laws.{KeepsArray}
 use Rattle.ua_variants.specs.Keeps.{KeepsDataValue, KeepsLayer, KeepsVariant}
 use Rattle.ua_variants.specs.declared.variant.Scalar.{Scalar}
 use Rattle.ua_variants.specs.declared.variant.Scalar.TheVariants as scalar
-use Rattle.ua_variants.specs.declared.variant.Variant.{Variant, out-Variant, out-roll-Variant}
+use Rattle.ua_variants.specs.declared.variant.Variant.{out-Variant, out-roll-Variant}
 use Rattle.ua_variants.specs.declared.variant.Variant.TheOpen.{Variant-F}
 use Rattle.ua_variants.specs.declared.variant.Variant.TheVariants as variant
 use Rattle.ua_variants.specs.declared.variant.Variant.TheVariants.{rolls-Scalar}
 use Rattle.ua_structures.specs.Structures.{unused_diagnostics}
-use Rattle.ua_structures.specs.Body.{AreHeld, object_at, object_by}
+use Rattle.ua_structures.specs.Body.{AreHeld}
 use Rattle.ua_structures.proofs.BodyLaws.{contents_lawful}
 use Rattle.ua_sub_msgs.specs.declared.notification.MonitoredItemNotification.{MonitoredItemNotification}
 use Rattle.ua_sub_msgs.specs.Structures.{a_data_change_notification, a_monitored_item_notification}
 use Rattle.ua_sub_msgs.specs.Families.{notifications, notification_put}
 use Rattle.ua_sub_msgs.proofs.Spelled.{notification_spelled}
 use Rattle.subscription.specs.Items.{Told}
-use Rattle.subscription.specs.Message.{data_change, formed, has_server, has_source, message_of, notified, sent_pico, sent_status, value_of}
-use Rattle.subscription.specs.Seen.{AreTellable, IsTellable, Seen, entries_seen, entry_at, entry_in, mark_in, pico_in, scalar_in, seen, seen_in, seen_read, seen_with, stamp_in}
+use Rattle.subscription.specs.Message.{data_change, has_server, has_source, message_of, notified, sent_pico, sent_status, value_of}
+use Rattle.subscription.specs.Seen.{AreTellable, IsTellable, entries_seen, entry_at, entry_in, mark_in, pico_in, scalar_in, seen, seen_in, seen_read, seen_with, stamp_in}
 
 held : AreHeld notifications notification_put
 held = contents_lawful notifications notification_put notification_spelled

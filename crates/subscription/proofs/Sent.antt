@@ -1,11 +1,10 @@
 -- The numbers of the messages that were sent, and which of them are kept.
-use Rattle.std.proofs.Common.{◌≡◌, ℕ, ℤ, zero, suc, ◌+◌, ◌-◌, ◌%◌, ◌^◌, ◌<◌, ◌≤◌, ◌==◌, List, [], ◌∷◌, Bool, true, false, cond, length, take, Option, Some, None, refl, sym, ap, ◌∙◌, subst, arith}
-use Rattle.std.specs.Prelude.{reverse, if◌then◌else◌, ◌&&◌, not, nat_lt}
+use Rattle.std.proofs.Common.{◌≡◌, ℕ, ℤ, suc, ◌+◌, ◌-◌, ◌%◌, ◌^◌, ◌<◌, ◌≤◌, ◌==◌, List, [], ◌∷◌, Bool, true, false, cond, length, take, Option, Some, None, refl, sym, ap, ◌∙◌, arith}
+use Rattle.std.specs.Prelude.{if◌then◌else◌, ◌&&◌, not, nat_lt}
 use Rattle.std.proofs.lemmas.Bool.Decides.{nat_tests}
 use Rattle.std.proofs.lemmas.List.{length-take, length-reverse}
 use Rattle.std.proofs.Math.Nat.{suc-mod, mod_self, mod-eq_of_lt, mod-lt}
 use Rattle.ua_base.specs.Number.{after_message}
-use Rattle.retransmit.specs.declared.retransmission.Sent.{Sent}
 use Rattle.retransmit.specs.Kept.{message_of, with_sent, without}
 use Rattle.retransmit.specs.History.{Call as KeptCall, acknowledged, available, kept_after, most_waiting, unacknowledged}
 use Rattle.retransmit.proofs.Available.{given_available}
@@ -19,7 +18,7 @@ use Rattle.subscription.specs.Items.{Told}
 use Rattle.subscription.specs.Message as form
 use Rattle.subscription.specs.Cycle.{after_row, cycled, row_of}
 use Rattle.subscription.specs.Calls.{after_sending, entries_told, items_left, next_message, published, sent_with}
-use Rattle.subscription.specs.History.{Call, Add, Remove, SetMode, Feed, Timer, Publish, Acknowledge, Modify, SetEnabled, Moved, after, state_of}
+use Rattle.subscription.specs.History.{Call, Add, Remove, SetMode, Feed, Timer, Publish, Acknowledge, Modify, SetEnabled, Moved, state_of}
 use Rattle.subscription.specs.Sendings.{counted, data_count, data_of, data_sent, kept_next, kept_with, number_of, sendings}
 
 -- ---- numbers

@@ -1,25 +1,25 @@
 -- An item tells of its stream after each call.
-use Rattle.std.proofs.Common.{◌≡◌, ◌≢◌, ℕ, ℤ, zero, suc, ◌+◌, ◌-◌, ◌<◌, ◌≤◌, ◌==◌, List, [], ◌∷◌, ◌++◌, Bool, true, false, cond, length, map, take, drop, Option, Some, None, refl, sym, ap, ◌∙◌, subst, arith, append_assoc, slice_get, ◌⊎◌, inl, inr}
+use Rattle.std.proofs.Common.{◌≡◌, ◌≢◌, ℕ, zero, suc, ◌+◌, ◌-◌, ◌≤◌, ◌==◌, List, [], ◌∷◌, ◌++◌, Bool, true, false, cond, length, map, take, drop, Option, Some, None, refl, sym, ap, ◌∙◌, subst, arith, append_assoc, slice_get, ◌⊎◌, inl, inr}
 use Rattle.std.proofs.lemmas.Bool.Decides.{nat_tests}
 use Rattle.std.proofs.lemmas.List.{append-nil}
 use Rattle.ua_base.specs.declared.modes.Mode.{Mode}
-use Rattle.ua_base.specs.declared.modes.Mode.TheVariants.{Disabled, Sampling, Reporting}
+use Rattle.ua_base.specs.declared.modes.Mode.TheVariants.{Disabled}
 use Rattle.set_model.specs.declared.source.Change.{Change}
 use Rattle.item_queue.specs.declared.queue.Entry.{Entry}
 use Rattle.item_queue.specs.State.{QueueState}
-use Rattle.item_queue.specs.Queue.{Holds, empty_queue, pushed, without_oldest}
+use Rattle.item_queue.specs.Queue.{Holds, empty_queue, pushed}
 use Rattle.item_queue.specs.Stream.{AreAt, IsAt, held_with, last_place}
 use Rattle.item_queue.proofs.Entries.{last-more}
 use Rattle.item_queue.proofs.Holding.{holds_push, holds_start, holds_take}
 use Rattle.subscription.specs.declared.spec.SubSpec.{SubSpec}
 use Rattle.subscription.specs.declared.spec.ItemSpec.{ItemSpec}
 use Rattle.subscription.specs.State.{ItemState, SubState}
-use Rattle.subscription.specs.Items.{fed_item, has_id, idle_item, is_disabled, item_of, moded_if, new_item, opened, queue_in, samples, with_mode, without_item}
+use Rattle.subscription.specs.Items.{fed_item, has_id, is_disabled, item_of, moded_if, new_item, opened, queue_in, samples, with_mode, without_item}
 use Rattle.subscription.specs.Calls.{entries_told, items_left}
 use Rattle.subscription.specs.History.{AreAllowed, Call, IsAllowed, Add, Remove, SetMode, Feed, Timer, Publish, Acknowledge, Modify, SetEnabled, Moved, after, state_of}
 use Rattle.subscription.specs.Streams.{AreRising, IsTold, ItemStream, begun_with, entries_of, fed_stream, moded_stream, no_stream, stream_after, stream_in, stream_of}
 use Rattle.subscription.proofs.Rising.{cycled_items, fed_id, ids_rise, moded_id, published_items}
-use Rattle.subscription.proofs.Finding.{WasFound, WasTold, found_added, found_id, found_items_left, found_mapped, found_within, none_left, others_left}
+use Rattle.subscription.proofs.Finding.{found_added, found_id, found_items_left, found_mapped, found_within, none_left, others_left}
 
 -- ---- one item and its stream
 

@@ -1,12 +1,11 @@
 -- What is told of items, one entry and one item after another.
-use Rattle.std.proofs.Common.{◌≡◌, ℕ, ◌+◌, ◌-◌, ◌≤◌, ◌<◌, List, [], ◌∷◌, ◌++◌, take, drop, map, length, refl, sym, ap, ap₂, ◌∙◌, append_assoc, Result, Ok, Err, OnErr, if◌then◌else◌, arith, suc, Bool, true, false, slice_set}
+use Rattle.std.proofs.Common.{◌≡◌, ℕ, ◌+◌, ◌-◌, ◌≤◌, List, [], ◌∷◌, ◌++◌, take, drop, map, length, refl, sym, ap, ap₂, ◌∙◌, append_assoc, Result, Ok, Err, OnErr, if◌then◌else◌, arith, suc, Bool, true, false, slice_set}
 use Rattle.std.proofs.lemmas.List.{drop-drop, append-nil, take-append-drop, take-append-le, map-append, length-take-le, take-take, set-get_or}
 use Rattle.std.proofs.Math.Seq.{take-add, take-length, drop-length}
 use Rattle.std.proofs.Math.ListN.{drop_of_length-le, get_or}
-use Rattle.item_queue.specs.declared.queue.Entry.{Entry}
 use Rattle.item_queue.specs.Queue.{without_oldest}
 use Rattle.subscription.specs.State.{ItemState, SubState}
-use Rattle.subscription.specs.Items.{IsPart, Told, count_told, left, left_of, telling, told}
+use Rattle.subscription.specs.Items.{IsPart, Told, count_told, left, telling, told}
 use Rattle.subscription.specs.Calls.{IsInterrupted, items_left}
 
 -- what holds anyway, holds on an error

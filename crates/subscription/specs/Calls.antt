@@ -8,7 +8,7 @@ use Rattle.ua_sub_msgs.specs.declared.notification.NotificationMessage.{Notifica
 use Rattle.subscription.specs.declared.spec.SubSpec.{SubSpec}
 use Rattle.subscription.specs.declared.spec.ItemSpec.{ItemSpec}
 use Rattle.subscription.specs.State.{ItemState, SubState}
-use Rattle.subscription.specs.Items.{IsPart, Told, fed_item, item_of, left, new_item, told, with_item_mode, without_item}
+use Rattle.subscription.specs.Items.{IsPart, Told, fed_item, left, new_item, told, with_item_mode, without_item}
 use Rattle.subscription.specs.Message.{message_of}
 use Rattle.subscription.specs.Cycle.{has_something, moment_after}
 
@@ -40,8 +40,8 @@ with_mode_of id mode current s = record s { items = with_item_mode id mode curre
 abbrev pub fed : Change → SubState → SubState
 fed change s = record s { items = map (fed_item change) s.items }
 
--- the revised interval, counts and most notifications (OPC 10000-4, 5.13.3): both counts begin again, and the next cycle
--- is an interval from now
+-- the revised interval, counts and most notifications (OPC 10000-4, 5.13.3): both counts begin again, and the next
+-- cycle is an interval from now
 abbrev pub modified : SubSpec → ℕ → SubState → SubState
 modified spec now s = record s {
   spec = record spec { id = s.spec.id; enabled = s.spec.enabled };

@@ -1,5 +1,5 @@
 -- How many cycles went by, said of all calls so far (OPC 10000-4, 5.13.1.2).
-use Rattle.std.specs.Prelude.{◌≡◌, ◌≢◌, ℕ, ◌+◌, List, [], ◌∷◌, Bool, true, false, if◌then◌else◌}
+use Rattle.std.specs.Prelude.{◌≢◌, ℕ, ◌+◌, List, [], ◌∷◌, Bool, true, false}
 use Rattle.subscription.specs.declared.spec.SubSpec.{SubSpec}
 use Rattle.subscription.specs.declared.cycle.Cycle.{Cycle}
 use Rattle.subscription.specs.declared.cycle.Cycle.TheVariants.{Quiet, Notify, KeepAlive, Late, Expired}
@@ -25,8 +25,8 @@ abbrev pub Lasts : SubSpec → ℕ → List Call → Type 0
 Lasts spec start [] = Unit {0}
 Lasts spec start (call ∷ earlier) = IsLasting call (state_of spec start earlier) × Lasts spec start earlier
 
--- how many cycles went by without a Publish request queued, since the last one with one, since its counts were modified,
--- and since another session took it
+-- how many cycles went by without a Publish request queued, since the last one with one, since its counts were
+-- modified, and since another session took it
 abbrev pub unserved : List Call → ℕ
 unserved [] = 0
 unserved (Timer true ∷ earlier) = 0
@@ -51,7 +51,8 @@ with_quiet Expired count = count
 -- how many cycles were quiet since the last message, and since its counts were modified
 abbrev pub silent : SubSpec → ℕ → List Call → ℕ
 silent spec start [] = 0
-silent spec start (Timer queued ∷ earlier) = with_quiet (row_of queued (state_of spec start earlier)) (silent spec start earlier)
+silent spec start (Timer queued ∷ earlier) =
+    with_quiet (row_of queued (state_of spec start earlier)) (silent spec start earlier)
 silent spec start (Publish now ∷ earlier) = 0
 silent spec start (Modify changed now ∷ earlier) = 0
 silent spec start (Add item current ∷ earlier) = silent spec start earlier

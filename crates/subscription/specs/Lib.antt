@@ -8,3 +8,4 @@ pub mod Streams
 pub mod Sendings
 pub mod Counts
 pub mod Seen
+pub mod Sources

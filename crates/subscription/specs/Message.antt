@@ -10,7 +10,6 @@ use Rattle.ua_variants.specs.declared.variant.Variant.TheVariants as variant
 use Rattle.ua_variants.specs.declared.variant.Stamped.{Stamped}
 use Rattle.ua_structures.specs.Body.{object_by}
 use Rattle.ua_sub_msgs.specs.declared.notification.MonitoredItemNotification.{MonitoredItemNotification}
-use Rattle.ua_sub_msgs.specs.declared.notification.DataChangeNotification.{DataChangeNotification}
 use Rattle.ua_sub_msgs.specs.declared.notification.Notification.{Notification}
 use Rattle.ua_sub_msgs.specs.declared.notification.Notification.TheVariants as notification
 use Rattle.ua_sub_msgs.specs.declared.notification.NotificationMessage.{NotificationMessage}

@@ -1,5 +1,5 @@
 -- What can be read of a message's entries from the message alone.
-use Rattle.std.specs.Prelude.{◌≡◌, ◌<◌, ◌≤◌, ℕ, ℤ, ◌^◌, ◌==◌, List, [], ◌∷◌, ◌++◌, Bool, true, false, Option, Some, None, Result, Ok, Err, FitsSigned, length, if◌then◌else◌}
+use Rattle.std.specs.Prelude.{◌<◌, ◌≤◌, ℕ, ℤ, ◌^◌, ◌==◌, List, [], ◌∷◌, ◌++◌, Bool, false, Option, Some, None, Result, Ok, Err, FitsSigned, if◌then◌else◌}
 use Rattle.std.specs.Int.{w64}
 use Rattle.set_model.specs.declared.stamp.Stamp.{Stamp}
 use Rattle.set_model.specs.Source.{stamp_of}
@@ -9,7 +9,6 @@ use Rattle.ua_variants.specs.declared.variant.Scalar.{Scalar}
 use Rattle.ua_variants.specs.declared.variant.Scalar.TheVariants as scalar
 use Rattle.ua_variants.specs.declared.variant.Variant.{Variant, out-Variant}
 use Rattle.ua_variants.specs.declared.variant.Variant.TheOpen.{Variant-F}
-use Rattle.ua_variants.specs.declared.variant.Stamped.{Stamped}
 use Rattle.ua_structures.specs.declared.body.BodyFault.{BodyFault}
 use Rattle.ua_structures.specs.Body.{object_at}
 use Rattle.ua_sub_msgs.specs.declared.notification.MonitoredItemNotification.{MonitoredItemNotification}

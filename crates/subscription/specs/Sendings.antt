@@ -1,5 +1,6 @@
--- Which messages were sent, by their numbers, and which of them are kept, said of all calls so far (OPC 10000-4, 5.13.1.1).
-use Rattle.std.specs.Prelude.{◌≡◌, ℕ, ℤ, ◌+◌, ◌-◌, ◌%◌, ◌^◌, List, [], ◌∷◌, ◌++◌, Bool, true, false, Option, Some, None}
+-- Which messages were sent, by their numbers, and which of them are kept, said of all calls so far (OPC 10000-4,
+-- 5.13.1.1).
+use Rattle.std.specs.Prelude.{ℕ, ℤ, ◌+◌, ◌-◌, ◌%◌, ◌^◌, List, [], ◌∷◌, Option, Some, None}
 use Rattle.retransmit.specs.History.{Call as KeptCall, Send, Acknowledge as Acknowledged}
 use Rattle.ua_sub_msgs.specs.declared.notification.NotificationMessage.{NotificationMessage}
 use Rattle.subscription.specs.declared.spec.SubSpec.{SubSpec}
@@ -42,7 +43,8 @@ abbrev pub number_of : ℕ → ℕ
 number_of k = 1 + (k - 1) % (2 ^ 32 - 1)
 
 -- the call's part in what is kept
-abbrev pub kept_with : Option NotificationMessage → List (KeptCall NotificationMessage) → List (KeptCall NotificationMessage)
+abbrev pub kept_with : Option NotificationMessage → List (KeptCall NotificationMessage)
+    → List (KeptCall NotificationMessage)
 kept_with None calls = calls
 kept_with (Some message) calls = Send message.sequence_number message ∷ calls
 

@@ -7,8 +7,8 @@ use Rattle.retransmit.specs.declared.retransmission.Sent.{Sent}
 use Rattle.ua_sub_msgs.specs.declared.notification.NotificationMessage.{NotificationMessage}
 use Rattle.subscription.specs.declared.spec.SubSpec.{SubSpec}
 
--- a monitored item (OPC 10000-4, 5.12.1): its id, the number of its node, the client's handle, its monitoring mode, which
--- times are sent with its values, and its queue
+-- a monitored item (OPC 10000-4, 5.12.1): its id, the number of its node, the client's handle, its monitoring mode,
+-- which times are sent with its values, and its queue
 pub record ItemState : Type 0 where
   pub id : ℕ
   pub node : ℕ

@@ -1,6 +1,6 @@
 -- What the stream of an item is, and which of it was told, said of all calls so far (OPC 10000-4, 5.12.1). Nothing here
 -- knows what a queue holds.
-use Rattle.std.specs.Prelude.{◌≡◌, ◌≤◌, ◌<◌, ℕ, ◌+◌, ◌==◌, List, [], ◌∷◌, ◌++◌, Option, Some, None, map, filter, if◌then◌else◌}
+use Rattle.std.specs.Prelude.{◌≤◌, ◌<◌, ℕ, ◌+◌, ◌==◌, List, [], ◌∷◌, ◌++◌, Option, Some, None, map, filter, if◌then◌else◌}
 use Rattle.ua_base.specs.declared.modes.Mode.{Mode}
 use Rattle.ua_base.specs.declared.modes.Mode.TheVariants.{Disabled}
 use Rattle.set_model.specs.declared.source.Change.{Change}
@@ -68,9 +68,9 @@ stream_of spec start id [] = no_stream
 stream_of spec start id (call ∷ earlier) =
     stream_after id call (state_of spec start earlier) (stream_of spec start id earlier)
 
--- what an item with this queue tells of its stream: the entries that messages told, one after another, are the changes at
--- rising places of it, and the queue holds what its rule says of what came since; each entry is marked where its place
--- isn't the next one after the place before it, which was told or is held
+-- what an item with this queue tells of its stream: the entries that messages told, one after another, are the changes
+-- at rising places of it, and the queue holds what its rule says of what came since; each entry is marked where its
+-- place isn't the next one after the place before it, which was told or is held
 pub record IsTold (queue : QueueState) (stream : ItemStream) : Type 0 where
   pub told : List ℕ
   pub held : List ℕ

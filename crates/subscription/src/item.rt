@@ -154,7 +154,8 @@ impl Item {
     fn tell_one(&mut self, now: i64, to: &mut Vec<MonitoredItemNotification>)
         requires { vec_len to.old < vec_capacity to.old }
         ensures item { self.new ≡ record self.old { queue = without_oldest 1 self.old.queue } }
-        ensures list { to.new.items ≡ to.old.items ++ map (notified now) (map (telling self.old) (take 1 self.old.queue.entries)) }
+        ensures list { to.new.items
+            ≡ to.old.items ++ map (notified now) (map (telling self.old) (take 1 self.old.queue.entries)) }
         ensures len { vec_len to.new ≤ vec_len to.old + 1 }
         ensures room { vec_capacity to.new ≡ vec_capacity to.old }
     {

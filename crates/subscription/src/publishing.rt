@@ -49,8 +49,8 @@ fn moment_after(interval: u32, now: u64) -> Option<u64>
 }
 
 impl Subscription {
-    /// A new subscription without items, at a moment of the server's age in milliseconds. Its first cycle is an interval
-    /// later.
+    /// A new subscription without items, at a moment of the server's age in milliseconds. Its first cycle is an
+    /// interval later.
     pub fn new(alloc: Global, spec: SubSpec, now: u64) -> Result<Subscription, OutOfMemory>
         ensures { IfOk result (λ sub. sub ≡ new_sub spec now) }
     {
@@ -69,9 +69,9 @@ impl Subscription {
         })
     }
 
-    /// Adds a monitored item, and answers its id: 1 for the first one, and then one more each time, whatever was removed
-    /// (OPC 10000-4, 5.12.2). Its stream begins with the current value of its node, if there is one, unless it is
-    /// Disabled. Where memory is refused nothing changes.
+    /// Adds a monitored item, and answers its id: 1 for the first one, and then one more each time, whatever was
+    /// removed (OPC 10000-4, 5.12.2). Its stream begins with the current value of its node, if there is one, unless it
+    /// is Disabled. Where memory is refused nothing changes.
     pub fn add(
         &mut self,
         alloc: Global,
@@ -92,7 +92,8 @@ impl Subscription {
         Ok(id)
     }
 
-    /// Removes the item of an id with all that its queue holds (OPC 10000-4, 5.12.6), and answers whether there was one.
+    /// Removes the item of an id with all that its queue holds (OPC 10000-4, 5.12.6), and answers whether there was
+    /// one.
     pub fn remove(&mut self, id: u32) -> bool
         ensures removed { self.new ≡ removed id self.old }
         ensures there { result ≡ is_there id self.old.items }
@@ -102,9 +103,9 @@ impl Subscription {
         there
     }
 
-    /// Gives the item of an id a mode (OPC 10000-4, 5.12.4), and answers whether there is one. Going to Disabled empties
-    /// its queue; leaving Disabled begins a new stream with the current value of its node, if there is one. It takes no
-    /// memory.
+    /// Gives the item of an id a mode (OPC 10000-4, 5.12.4), and answers whether there is one. Going to Disabled
+    /// empties its queue; leaving Disabled begins a new stream with the current value of its node, if there is one. It
+    /// takes no memory.
     pub fn set_mode(
         &mut self,
         id: u32,
@@ -127,9 +128,9 @@ impl Subscription {
         item::feed(self.items.as_mut_slice(), change);
     }
 
-    /// One cycle of the publishing timer, where a Publish request is queued or none is (OPC 10000-4, 5.13.1.2). It answers
-    /// which row it took: of `Notify` and `KeepAlive` the message is due from `publish`, and with `Expired`, which changes
-    /// nothing, the subscription ends. It takes no memory.
+    /// One cycle of the publishing timer, where a Publish request is queued or none is (OPC 10000-4, 5.13.1.2). It
+    /// answers which row it took: of `Notify` and `KeepAlive` the message is due from `publish`, and with `Expired`,
+    /// which changes nothing, the subscription ends. It takes no memory.
     pub fn timer(&mut self, parked: bool) -> Cycle
         ensures row { result ≡ row_of parked self.old }
         ensures cycled { self.new ≡ cycled parked self.old }
@@ -138,6 +139,7 @@ impl Subscription {
         match row {
             Cycle::Quiet => {
                 self.tick(parked);
+                // Read for its range: the count stays below it.
                 let _keep_alive = self.spec.keep_alive;
                 self.quiet += 1;
             }
@@ -152,9 +154,9 @@ impl Subscription {
     }
 
     /// Forms the next message at a time of the server: a data message with the oldest entries of the reported items, in
-    /// order of the items' ids and as many as one message has, or a keep-alive where nothing is to be told (OPC 10000-4,
-    /// 5.13.1.1). A data message has the next number, which it uses up, and is kept; a keep-alive has that number too and
-    /// does neither.
+    /// order of the items' ids and as many as one message has, or a keep-alive where nothing is to be told (OPC
+    /// 10000-4, 5.13.1.1). A data message has the next number, which it uses up, and is kept; a keep-alive has that
+    /// number too and does neither.
     ///
     /// Where memory is refused, entries that the message would have told may be gone, and else nothing changed: the
     /// subscription is no more to be used.
@@ -272,11 +274,12 @@ impl Subscription {
             .map(|item| item.node())
     }
 
-    /// Appends the items' ids to a list, and the client's handles to another one, by rising ids. Where memory is refused,
-    /// both are as they were.
+    /// Appends the items' ids to a list, and the client's handles to another one, by rising ids. Where memory is
+    /// refused, both are as they were.
     pub fn items(&self, ids: &mut Vec<u32>, handles: &mut Vec<u32>) -> Result<(), OutOfMemory>
         ensures ids { OnOk result (ids.new.items ≡ ids.old.items ++ map (λ item. item.id) self.now.items) }
-        ensures handles { OnOk result (handles.new.items ≡ handles.old.items ++ map (λ item. item.handle) self.now.items) }
+        ensures handles { OnOk result
+            (handles.new.items ≡ handles.old.items ++ map (λ item. item.handle) self.now.items) }
         ensures ids_stay { OnErr result (ids.new.items ≡ ids.old.items) }
         ensures handles_stay { OnErr result (handles.new.items ≡ handles.old.items) }
     {
@@ -330,6 +333,7 @@ impl Subscription {
         requires { row_of parked self.old ≢ Expired }
         ensures { self.new ≡ ticked parked self.old }
     {
+        // Read for its range: the count stays below it.
         let _lifetime = self.spec.lifetime;
         let interval = self.spec.interval;
         self.due = self.due.and_then(|due| moment_after(interval, due));

@@ -1,4 +1,4 @@
-use Rattle.std.proofs.Common.{rules, w64, ◌≡◌, arith, length, ◌≤◌, slice_set}
+use Rattle.std.proofs.Common.{w64, slice_set}
 use Rattle.subscription.specs.Items.{IsPart, left}
 use Rattle.std.proofs.Math.Facts.{to_z-of_z}
 use Rattle.subscription.specs.Message.{notified}

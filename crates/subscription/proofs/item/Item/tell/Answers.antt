@@ -1,4 +1,4 @@
-use Rattle.std.proofs.Common.{rules, w64, ◌≡◌, arith}
+use Rattle.std.proofs.Common.{w64, arith}
 use Rattle.std.proofs.Math.Facts.{to_z-of_z}
 use Rattle.subscription.specs.Message.{notified}
 use Rattle.subscription.proofs.Telling.{item_on, list_on}

@@ -1,4 +1,4 @@
-use Rattle.std.proofs.Common.{rules, ◌≡◌, ◌∙◌, sym, subst, arith}
+use Rattle.std.proofs.Common.{◌∙◌, sym, subst}
 use Rattle.subscription.specs.Calls.{IsInterrupted}
 use Rattle.subscription.proofs.Telling.{all_gone, on_err}
 use Rattle.subscription.proofs.publishing.Subscription.publish.Goals as goal

@@ -1,4 +1,4 @@
-use Rattle.std.proofs.Common.{rules, ◌≡◌, ◌≢◌, ℕ, ◌+◌, ◌^◌, ◌<◌, false, ap, ◌∙◌, arith, subst}
+use Rattle.std.proofs.Common.{rules, ◌≡◌, ◌≢◌, ◌+◌, ◌^◌, ◌<◌, false, ap, arith, subst}
 use Rattle.subscription.proofs.Rows.{below, lasting_is_short}
 use Rattle.subscription.specs.State.{SubState}
 use Rattle.subscription.specs.Cycle.{is_forgotten, row_of}

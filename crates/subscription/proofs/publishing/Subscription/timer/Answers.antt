@@ -1,8 +1,7 @@
-use Rattle.std.proofs.Common.{rules, ◌≡◌, ℕ, ◌+◌, ◌^◌, ◌<◌, false, ap, sym, ◌∙◌, arith}
+use Rattle.std.proofs.Common.{rules, ◌≡◌, ◌+◌, ◌^◌, ◌<◌, false, ap, sym, ◌∙◌, arith}
 use Rattle.subscription.proofs.Rows.{below, quiet_is_short}
 use Rattle.subscription.specs.State.{SubState}
-use Rattle.subscription.specs.Cycle.{is_silent, row_of}
-use Rattle.subscription.specs.declared.cycle.Cycle.TheVariants.{Quiet}
+use Rattle.subscription.specs.Cycle.{is_silent}
 use Rattle.subscription.proofs.publishing.Subscription.timer.Goals as goal
 
 pub overflow_add-self : goal.overflow_add-self
