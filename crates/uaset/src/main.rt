@@ -3,6 +3,7 @@
 
 mod answer;
 mod command;
+mod laws;
 mod reading;
 mod replay;
 mod status;
