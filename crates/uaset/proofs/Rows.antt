@@ -1,10 +1,10 @@
 -- What is read by a row is what the row spells, and the place of a fault is where the words cease to fit.
-use Rattle.std.proofs.Common.{◌≡◌, ◌≤◌, ◌<◌, ◌+◌, ◌⊎◌, inl, inr, ℕ, zero, suc, max, take, length, List, [], ◌∷◌, codes, Bool, true, false, ◌&&◌, cond, Option, Some, None, Result, Ok, Err, refl, sym, ap, ap₂, ◌∙◌, subst, arith}
+use Rattle.std.proofs.Common.{◌≡◌, ◌≤◌, ◌+◌, ◌⊎◌, inl, inr, ℕ, zero, suc, max, take, List, [], ◌∷◌, codes, Bool, true, false, ◌&&◌, cond, Option, Some, None, Result, Ok, Err, refl, sym, ap, ◌∙◌, subst, arith}
 use Rattle.std.specs.Prelude.{nat_le}
 use Rattle.std.specs.Str.{bytes_eq}
 use Rattle.std.proofs.lemmas.Slice.Eq.{bytes_eq-Decides}
 use Rattle.std.proofs.lemmas.Bool.Decides.{nat_tests}
-use Rattle.std.proofs.lemmas.Bool.{cases_lt, and_left, and_right}
+use Rattle.std.proofs.lemmas.Bool.{cases_lt}
 use Rattle.scenario.specs.Words.{number_of, numeral}
 use Rattle.scenario.proofs.NumeralLemmas.{number_of-numeral, numeral-number_of}
 use Rattle.uaset.specs.Words.{◌>>=◌, Row, Ends, Word, Number, behind, before, in_bounds, number_before, no_more, read_row, farther, read_rows, command_of, rows}
