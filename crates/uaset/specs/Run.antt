@@ -1,5 +1,6 @@
 -- What `run` promises of each status, by the words, the input's bytes and what is written.
-use Rattle.std.specs.Prelude.{◌≡◌, ◌≤◌, ℕ, List, [], length, Bool, true, false, Option, Some, None, Ok, Err, IfSome, IsSome}
+use Rattle.std.specs.Prelude.{◌≡◌, ◌≤◌, ℕ, List, [], length, Bool, true, false, Option, Some, None, Ok, Err}
+use Rattle.std.specs.Prelude.{IfSome, IsSome}
 use Rattle.ua_edge.specs.Calls.{Rose}
 use Rattle.uaset.specs.declared.words.Command.{Command}
 use Rattle.uaset.specs.declared.answer.Refusal.{Refusal}

@@ -6,8 +6,8 @@ ghost use Rattle.scenario.specs.declared.fault.FaultKind.{FaultKind};
 ghost use Rattle.uaset.specs.declared.answer.Refusal.TheVariants as refusals;
 ghost use Rattle.uaset.specs.Commands.{answer_to, reads, reads_of};
 ghost use Rattle.uaset.specs.Edges.{HadMore, IsDrained};
-ghost use Rattle.uaset.specs.Run.{Answers, AnswersInPart, Gets, IsRefused, IsUntroubled, KeepsPromise, is_silent, judges};
-ghost use Rattle.uaset.specs.Run.{listeners, status_after};
+ghost use Rattle.uaset.specs.Run.{Answers, AnswersInPart, Gets, IsRefused, IsUntroubled, KeepsPromise};
+ghost use Rattle.uaset.specs.Run.{is_silent, judges, listeners, status_after};
 ghost use Rattle.uaset.specs.Words.{command_of};
 
 use crate::answer::Refusal;

@@ -1,7 +1,8 @@
 //! The words of a command.
 
 ghost use Rattle.std.specs.Prelude.{◌≡◌, map};
-ghost use Rattle.uaset.specs.Words.{Gives, behind, no_more, replay_row, value_row, stream_row, read_row, farther, command_of};
+ghost use Rattle.uaset.specs.Words.{Gives, behind, command_of, farther, no_more, read_row};
+ghost use Rattle.uaset.specs.Words.{replay_row, stream_row, value_row};
 
 /// What the program may be told to do.
 #[derive(Clone, Copy)]
