@@ -2,7 +2,7 @@
 
 use crate::digits::put_bytes;
 use crate::stop::Stop;
-use crate::words::put;
+use crate::words::{put, put_number};
 use std::alloc::Global;
 use std::fmt::Debug;
 use ua_base::OutOfMemory;
@@ -21,7 +21,7 @@ pub enum Verb {
 /// A kind of values: they are told as their `Debug` has them, and written.
 pub trait Kind {
     /// What is read.
-    type Value: Debug;
+    type Value: Debug + Drop;
 
     /// Appends the value's bytes.
     fn write(alloc: Global, value: &Self::Value, to: &mut Vec<u8>) -> Result<(), OutOfMemory>;
@@ -84,4 +84,25 @@ pub fn tell<K: Kind>(
         Verb::Read => put_debug(alloc, " ", value, to),
         Verb::Again => put_again::<K>(alloc, value, bytes, to),
     }
+}
+
+/// The first so many bytes, or all.
+fn front(bytes: &[u8], size: usize) -> &[u8] {
+    match bytes.split_at_checked(size) {
+        Some((front, _)) => front,
+        None => bytes,
+    }
+}
+
+/// Tells a value that stood at the front of these bytes, behind how many it takes.
+pub fn tell_front<K: Kind>(
+    alloc: Global,
+    verb: Verb,
+    value: &K::Value,
+    size: usize,
+    bytes: &[u8],
+    to: &mut String,
+) -> Result<(), Stop> {
+    put_number(alloc, to, size as u64)?;
+    tell::<K>(alloc, verb, value, front(bytes, size), to)
 }
