@@ -60,14 +60,13 @@ fn answer_often<T: Types>(
     Ok(())
 }
 
-/// Copies bytes so many times.
+/// Copies bytes so many times, and says how many they are.
 fn copy_often(alloc: Global, count: u32, bytes: &[u8], to: &mut String) -> Result<(), Stop> {
+    let mut size: usize = 0;
     for _ in 0..count {
-        to.clear();
-        let copy = Vec::from_slice(alloc, bytes)?;
-        put_number(alloc, to, copy.len() as u64)?;
+        size = Vec::from_slice(alloc, bytes)?.len();
     }
-    Ok(())
+    put_number(alloc, to, size as u64)
 }
 
 /// Answers a line that asks of bytes, and maybe again and again: `VERB NAME DIGITS..`, `repeat COUNT VERB NAME DIGITS..`,
