@@ -1,4 +1,5 @@
 pub mod WordLemmas
+pub mod TableLemmas
 pub mod PastLemmas
 pub mod FaultLemmas
 pub mod CapLemmas

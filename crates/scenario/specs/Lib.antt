@@ -1,7 +1,9 @@
-pub mod Texts
 pub mod Words
+pub mod Table
+pub mod Texts
 pub mod Grammar
 pub mod Past
+pub mod Rules
 pub mod Faults
 pub mod Reading
 pub mod Scenario
