@@ -177,7 +177,7 @@ may_plain rules before name.Listen said h c =
     (few_listens rules.pool (listens_in before) (length (attached_in before)) (test_passed _ kind.NoListener _ h.listener)).1
 may_plain rules before _ said h c = tt
 
-may : (rules : Rules) (before : List Line) (f : Form) → Passes rules before f → MayFollow before (line_of f)
+pub may : (rules : Rules) (before : List Line) (f : Form) → Passes rules before f → MayFollow before (line_of f)
 may rules before (form.Set mode servers) h = ((set_place _ (allows_set rules.sets mode servers) h.place).0, (within_range 1 8 servers h.range).1)
 may rules before (form.Items items queue oldest) h =
     (items_place _ h.place, (within_range 1 64 items (and_parts (is_within 1 64 items) (is_within 2 1000 queue) h.range).0).1)

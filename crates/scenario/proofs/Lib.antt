@@ -9,3 +9,4 @@ pub mod GrammarLemmas
 pub mod ReadLemmas
 pub mod WrittenLemmas
 pub mod StandLemmas
+pub mod SoundLemmas

@@ -34,8 +34,9 @@ use Rattle.scenario.specs.Scenario.{scenario_of}
 use Rattle.scenario.specs.Words.{lines_of}
 use Rattle.scenario.specs.Valid.{IsBetween, MayCome, Meets, RowStands, ShapeStands, Stands, AllStand}
 use Rattle.scenario.proofs.PastLemmas.{has_ended-more}
+use Rattle.scenario.specs.Reading.{MayFollow}
 use Rattle.scenario.proofs.TableLemmas.{IsLineOf, all_suit, all_suited, made, shaped, within_is, within_range}
-use Rattle.scenario.proofs.FaultLemmas.{Passes, taken, change_passed, few_listens, items_place, numbers_passed, placed_row, set_place, under}
+use Rattle.scenario.proofs.FaultLemmas.{Passes, may, taken, change_passed, few_listens, items_place, numbers_passed, placed_row, set_place, under}
 use Rattle.scenario.proofs.ValidLemmas.{Follow, between_is, followed, not_refused, room_left}
 use Rattle.scenario.proofs.ReadLemmas.{AllRead, IsRead, read_by_form, line_of-written, fault-written, read_written}
 use Rattle.scenario.proofs.WrittenLemmas.{Small, small_more, few_of, text_of}
@@ -209,6 +210,13 @@ form_of_shape rules before (shape.Plain n said) l h is = record { f = form.Plain
 
 form_of_line : (rules : Rules) (before : List Line) (l : Line) → Stands rules before l → FormOf rules before l
 form_of_line rules before l h = form_of_shape rules before (shape_of l) l h (made l)
+
+-- a line that may stand may follow
+pub stands_may : (rules : Rules) (before : List Line) (l : Line) → Stands rules before l → MayFollow before l
+stands_may rules before l h =
+    let a = form_of_line rules before l h in
+    let P : Line → Type 0 = λ m. MayFollow before m in
+    subst P a.is (may rules before a.f a.passes)
 
 -- lines that may stand are each read from their own text
 all_read : (rules : Rules) (before ls : List Line) → Small before → length (before ++ ls) ≤ rules.lines → AllStand rules before ls → AllRead rules before ls

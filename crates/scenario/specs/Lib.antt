@@ -6,5 +6,7 @@ pub mod Past
 pub mod Rules
 pub mod Faults
 pub mod Reading
+pub mod Sound
+pub mod Generate
 pub mod Scenario
 pub mod Valid

@@ -4,6 +4,8 @@ ghost use Rattle.scenario.specs.declared.form.Form.{Form};
 ghost use Rattle.scenario.specs.declared.line.Line.{Line};
 ghost use Rattle.scenario.specs.declared.rules.Rules.{Rules};
 ghost use Rattle.scenario.specs.declared.line.Line.TheVariants as line;
+ghost use Rattle.scenario.specs.Generate.{generated};
+ghost use Rattle.scenario.specs.Rules.{rules_of_all};
 ghost use Rattle.scenario.specs.Words.{lines_of};
 ghost use Rattle.scenario.specs.Grammar.{as_written, form_of, form_text};
 ghost use Rattle.scenario.specs.Scenario.{scenario_of};
@@ -46,4 +48,14 @@ pub fn reads_what_was_written()
     ensures same { (rules : Rules) (bytes : List ℕ) (lines : List Line) → scenario_of rules bytes ≡ Ok lines →
         map as_written (lines_of bytes) ≡ lines_of bytes →
         (bytes ≡ written lines) ⊎ (bytes ++ codes "\n" ≡ written lines) }
+{}
+
+/// What `generate` makes is a scenario of so many lines, for a program that runs all modes: each line may stand after
+/// those before it, and the lines are read from what is written of them.
+pub fn generated_lines()
+    ensures count { (seed lines : ℕ) → 3 ≤ lines → lines ≤ 200000 → length (generated seed lines) ≡ lines }
+    ensures stand { (pool seed lines : ℕ) → 3 ≤ lines → lines ≤ 200000 →
+        AllStand (rules_of_all pool) [] (generated seed lines) }
+    ensures read { (pool seed lines : ℕ) → 3 ≤ lines → lines ≤ 200000 →
+        scenario_of (rules_of_all pool) (written (generated seed lines)) ≡ Ok (generated seed lines) }
 {}

@@ -1,9 +1,10 @@
 ghost use Rattle.std.specs.Prelude.{◌≡◌, ◌==◌, ◌<◌, ◌≤◌, ◌^◌, ◌+◌, ◌∷◌, ◌++◌, ℕ, List, [], pos, true};
-ghost use Rattle.std.specs.Prelude.{Some, None, Ok, Err, OnOk, OnErr, filter, length, not, vec_len};
+ghost use Rattle.std.specs.Prelude.{Some, None, Ok, Err, OnOk, OnErr, IfOk, filter, length, not, vec_len};
 ghost use Rattle.std.specs.Vec.{vec_capacity};
 ghost use Rattle.scenario.specs.declared.form.Form.TheVariants as form;
 ghost use Rattle.scenario.specs.declared.fault.FaultKind.TheVariants as kind;
 ghost use Rattle.scenario.specs.declared.fault.ReadError.TheVariants as errors;
+ghost use Rattle.scenario.specs.declared.line.Line.TheVariants as line;
 ghost use Rattle.scenario.specs.declared.rules.Rules.{Rules};
 ghost use Rattle.scenario.specs.declared.table.Need.TheVariants as need;
 ghost use Rattle.scenario.specs.Words.{words_of};
@@ -277,7 +278,29 @@ impl Reader {
         }
     }
 
-    fn life(&self, server: u64) -> Life
+    /// How many servers the set has.
+    pub(crate) fn servers(&self) -> u8
+        ensures { result ≡ servers_in self.now }
+    {
+        self.tally.servers
+    }
+
+    /// How many items the set has.
+    pub(crate) fn items(&self) -> u8
+        ensures { result ≡ items_in self.now }
+    {
+        self.tally.items
+    }
+
+    /// How many changes came.
+    pub(crate) fn changes(&self) -> u32
+        ensures { result ≡ length (changes_in self.now) }
+    {
+        self.tally.changes
+    }
+
+    /// How a server of the set lives.
+    pub(crate) fn life(&self, server: u64) -> Life
         requires { is_within 1 (servers_in self.now) server ≡ true }
         ensures { result ≡ life_of server self.now }
     {
@@ -486,7 +509,7 @@ impl Reader {
     }
 
     /// Takes a line that may follow.
-    fn take(&mut self, line: Line) -> Result<(), OutOfMemory>
+    pub(crate) fn take(&mut self, line: Line) -> Result<(), OutOfMemory>
         requires { MayFollow self.old line }
         ensures ok { OnOk result (self.new ≡ self.old ++ line ∷ []) }
         ensures err { OnErr result (self.new ≡ self.old) }
@@ -519,6 +542,15 @@ impl Reader {
             }
             Err(kind) => Err(self.fault_here(kind)),
         }
+    }
+
+    /// The lines, and `end`.
+    pub(crate) fn end(self) -> Result<Vec<Line>, OutOfMemory>
+        ensures { IfOk result (λ lines. lines.items ≡ self ++ line.End ∷ []) }
+    {
+        let mut lines = self.lines;
+        lines.push(Line::End)?;
+        Ok(lines)
     }
 
     /// All lines, where the last one was `end`.
