@@ -1,7 +1,6 @@
 //! Scenarios on one line.
 
-use crate::stop::Stop;
-use crate::words::{number, put, put_lines};
+use rows::{Stop, number, put, put_lines};
 use scenario::{Line, ReadError, read, write};
 use std::alloc::Global;
 

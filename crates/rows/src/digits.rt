@@ -1,25 +1,15 @@
 //! Bytes as words of hexadecimal digits: `HEX`, or `HEX*COUNT` for bytes that come so often one after the other.
 
 use crate::stop::Stop;
+use crate::words::number;
 use hex::FromHexError;
 use std::alloc::Global;
-use ua_base::OutOfMemory;
 
 /// From how many equal bytes on they are written as `XX*COUNT`.
 const LONG_RUN: u64 = 16;
 
-/// The number that a word is.
-pub(crate) fn number<T: std::str::FromStr + Drop>(word: &str) -> Result<T, Stop>
-where
-    T::Err: Drop,
-{
-    match word.parse::<T>() {
-        Ok(number) => Ok(number),
-        Err(_) => Err(Stop::BadLine),
-    }
-}
-
-fn decode(alloc: Global, digits: &str) -> Result<Vec<u8>, Stop> {
+/// The bytes of hexadecimal digits.
+pub fn decode(alloc: Global, digits: &str) -> Result<Vec<u8>, Stop> {
     match hex::decode(alloc, digits) {
         Ok(bytes) => Ok(bytes),
         Err(FromHexError::OutOfMemory) => Err(Stop::OutOfMemory),
@@ -43,7 +33,7 @@ fn put_word(alloc: Global, word: &str, to: &mut Vec<u8>) -> Result<(), Stop> {
 }
 
 /// The bytes of the words.
-pub(crate) fn bytes_of(alloc: Global, words: &[&str]) -> Result<Vec<u8>, Stop> {
+pub fn bytes_of(alloc: Global, words: &[&str]) -> Result<Vec<u8>, Stop> {
     let mut bytes = Vec::new(alloc);
     for word in words {
         put_word(alloc, word, &mut bytes)?;
@@ -68,7 +58,7 @@ struct Run {
 
 impl Run {
     /// Appends the run behind what stands there: as a word of its own, or as digits.
-    fn put(self, alloc: Global, last: Last, to: &mut String) -> Result<Last, OutOfMemory> {
+    fn put(self, alloc: Global, last: Last, to: &mut String) -> Result<Last, Stop> {
         let Run { byte, count } = self;
         if count < LONG_RUN {
             self.put_plain(alloc, last, to)
@@ -79,7 +69,7 @@ impl Run {
         }
     }
 
-    fn put_plain(self, alloc: Global, last: Last, to: &mut String) -> Result<Last, OutOfMemory> {
+    fn put_plain(self, alloc: Global, last: Last, to: &mut String) -> Result<Last, Stop> {
         if self.count == 0 {
             return Ok(last);
         }
@@ -96,7 +86,7 @@ impl Run {
 }
 
 /// Appends bytes as such words; sixteen and more equal ones are a word of their own. No bytes are `-`.
-pub(crate) fn put_bytes(alloc: Global, bytes: &[u8], to: &mut String) -> Result<(), OutOfMemory> {
+pub fn put_bytes(alloc: Global, bytes: &[u8], to: &mut String) -> Result<(), Stop> {
     if bytes.is_empty() {
         to.push('-')?;
         return Ok(());
