@@ -1,0 +1,16 @@
+//! One end of a connection: bytes to whole messages and back (OPC 10000-6, 6.7 and 7.1), for server and client alike.
+#![tactic(auto)]
+
+mod channel;
+mod ear;
+mod fault;
+mod heard;
+mod node;
+mod wire;
+
+pub use channel::{Channel, MOST_HELD};
+pub use ear::Ear;
+pub use fault::ChannelFault;
+pub use heard::Heard;
+pub use node::{Core, take_bytes};
+pub use wire::{Limits, Order, Wire};
