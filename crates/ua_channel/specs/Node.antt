@@ -71,3 +71,7 @@ module _ {C : Type 0} (ears : C → Ear) (answer : Heard → C → C × List Ord
   unfoldable pub node_after : List ℕ → NodeState C → NodeState C
   node_after [] n = n
   node_after (b ∷ bytes) n = if deaf n then n else stepped (b ∷ bytes) n
+
+  -- a fault is the last thing that is heard
+  abbrev pub Deafens : Type 0
+  Deafens = (code : ℕ) (core : C) → is_deaf (ears (answer (said.Fault code) core).0) ≡ true

@@ -5,6 +5,7 @@ mod channel;
 mod ear;
 mod fault;
 mod heard;
+mod laws;
 mod node;
 mod wire;
 
@@ -12,5 +13,6 @@ pub use channel::{Channel, MOST_HELD};
 pub use ear::Ear;
 pub use fault::ChannelFault;
 pub use heard::Heard;
+pub use laws::pieces_are_one;
 pub use node::{Core, take_bytes};
 pub use wire::{Limits, Order, Wire};
