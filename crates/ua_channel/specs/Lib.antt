@@ -2,3 +2,4 @@ pub mod State
 pub mod Hearing
 pub mod Orders
 pub mod Node
+pub mod Connections

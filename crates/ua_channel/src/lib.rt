@@ -2,6 +2,7 @@
 #![tactic(auto)]
 
 mod channel;
+mod channels;
 mod ear;
 mod fault;
 mod heard;
@@ -10,6 +11,7 @@ mod node;
 mod wire;
 
 pub use channel::{Channel, MOST_HELD};
+pub use channels::Channels;
 pub use ear::Ear;
 pub use fault::ChannelFault;
 pub use heard::Heard;
