@@ -128,10 +128,10 @@ module _ {C : Type 0} (ears : C → Ear) (answer : Heard → C → C × List Ord
   frames_append (x ∷ xs) ys n = frames_append xs ys (with_frame ears answer x n)
 
   -- what settles stays as deaf as it was
-  settled_deaf : (n : NodeState C) → deaf ears answer n ≡ true → deaf ears answer (settled ears answer n) ≡ true
+  pub settled_deaf : (n : NodeState C) → deaf ears answer n ≡ true → deaf ears answer (settled ears answer n) ≡ true
   settled_deaf n e = ap (deaf ears answer) (settled_shut n e) ∙ e
 
-  told_deaf : (code : ℕ) (n : NodeState C) → Deafens ears answer → deaf ears answer (told ears answer (said.Fault code) n) ≡ true
+  pub told_deaf : (code : ℕ) (n : NodeState C) → Deafens ears answer → deaf ears answer (told ears answer (said.Fault code) n) ≡ true
   unfolding told
   told_deaf code n deafens = settled_deaf (answered ears answer (said.Fault code) n) (deafens code n.core)
 
@@ -150,7 +150,7 @@ module _ {C : Type 0} (ears : C → Ear) (answer : Heard → C → C × List Ord
   abbrev pub done : Option ℕ → List Frame → NodeState C → NodeState C
   done o xs n = with_fault ears answer o (with_frames ears answer xs n)
 
-  stepped_is : (bytes : List ℕ) (n : NodeState C) → stepped ears answer bytes n
+  pub stepped_is : (bytes : List ℕ) (n : NodeState C) → stepped ears answer bytes n
       ≡ done (fault_of (after_feed bytes n.channel.framing).held) (frames_of bytes n.channel.framing) (framed_node ears answer bytes n)
   unfolding stepped
   stepped_is bytes n = refl
@@ -204,7 +204,7 @@ module _ {C : Type 0} (ears : C → Ear) (answer : Heard → C → C × List Ord
       let n0 = reframe fa n in
       let m = with_frames ears answer (frames_of front f) n0 in
       let first : stepped ears answer front n ≡ m =
-          stepped_is front n ∙ ap (λ (o : Option ℕ). done o (frames_of front f) (reframe (kept_by o fa) n)) is in
+      stepped_is front n ∙ ap (λ (o : Option ℕ). done o (frames_of front f) (reframe (kept_by o fa) n)) is in
       stepped_is (front ++ back) n
       ∙ ap (λ (t : Framing). done (fault_of t.held) (frames_of (front ++ back) f) (reframe (kept t) n)) (cut_state front back f)
       ∙ ap (λ (fs : List Frame). done fault fs (reframe g n)) (cut_frames front back f)
@@ -221,10 +221,10 @@ module _ {C : Type 0} (ears : C → Ear) (answer : Heard → C → C × List Ord
       let stay = stays back fa code is in
       let fault : fault_of (after_feed (front ++ back) f).held ≡ Some code = ap (λ (t : Framing). fault_of t.held) (cut_state front back f) ∙ stay.fault in
       let frames : frames_of (front ++ back) f ≡ frames_of front f =
-          cut_frames front back f ∙ ap (λ (gs : List Frame). frames_of front f ++ gs) stay.frames ∙ append-nil (frames_of front f) in
+      cut_frames front back f ∙ ap (λ (gs : List Frame). frames_of front f ++ gs) stay.frames ∙ append-nil (frames_of front f) in
       let m = done (Some code) (frames_of front f) (reframe new_framing n) in
       let first : stepped ears answer front n ≡ m =
-          stepped_is front n ∙ ap (λ (o : Option ℕ). done o (frames_of front f) (reframe (kept_by o fa) n)) is in
+      stepped_is front n ∙ ap (λ (o : Option ℕ). done o (frames_of front f) (reframe (kept_by o fa) n)) is in
       let ends : deaf ears answer m ≡ true = fault_deafens code (with_frames ears answer (frames_of front f) (reframe new_framing n)) deafens in
       stepped_is (front ++ back) n
       ∙ ap (λ (o : Option ℕ). done o (frames_of (front ++ back) f) (reframe (kept_by o (after_feed (front ++ back) f)) n)) fault

@@ -1,2 +1,5 @@
 pub mod Cutting
 pub mod Slots
+pub mod Parting
+pub mod Coming
+pub mod Showing

@@ -245,5 +245,5 @@ inserts cmp (x ∷ es) number key old new c same is held apart =
     let more = inserts cmp es number key old new c same is held.2 apart.1 in
     let own : key ≢ x.1 = λ equal. apart.0 (sym equal) in
     let by = inserts_by (cmp number x.0) x es (insert_entry cmp es number key) number key old new (insert_entry cmp (shown old es) number c) c same is held apart
-        more.shows more.held (apart_inserted cmp x.1 number key es own held.1) in
+    more.shows more.held (apart_inserted cmp x.1 number key es own held.1) in
     record { shows = by.shows; held = by.held }

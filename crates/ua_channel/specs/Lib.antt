@@ -3,3 +3,5 @@ pub mod Hearing
 pub mod Orders
 pub mod Node
 pub mod Connections
+pub mod Messages
+pub mod Arriving
