@@ -30,7 +30,7 @@ use Rattle.ua_channel.specs.State.{ChannelState, MayCarry, WireState, is_deaf, k
 use Rattle.ua_channel.specs.Hearing.{Hearing, chunk_heard, chunk_said, hearing, heard_of, message_said, number_taken, opened, opening_heard, says, takes, with_assembly, with_policy}
 use Rattle.ua_channel.specs.Orders.{fits, obeyed, obeyed_all, put_on, wire_parts, wire_parts_by}
 use Rattle.ua_channel.specs.Messages.{Judged, hearing_of, judged_by, judges, message_of_channel, takes_token_of}
-use Rattle.ua_channel.specs.Arriving.{Arrive, Expects, Follows, IsSent, Sent, after_sent, assembly_after, bytes_of, heard_all, heard_in, heard_next, past, sent_bytes}
+use Rattle.ua_channel.specs.Arriving.{Arrive, Expects, Follows, IsSent, SameButPart, Sent, after_sent, assembly_after, bytes_of, heard_all, heard_in, heard_next, past, sent_bytes}
 use Rattle.ua_channel.specs.Node.{Deafens, NodeState, after_hearing, answered, deaf, framed_node, node_after, stepped, told, told_if, with_fault, with_frame, with_frames}
 use Rattle.ua_channel.proofs.Cutting.{cut_node, deaf_after, deaf_frames, done, hearing_after, open_frame, reframe, settled_shut, shut_node, stepped_is, told_deaf}
 use Rattle.ua_channel.proofs.Parting.{PartsBy, between_past, clo_put, msg_put, parts_bring, parts_by, put_in, some_bytes}
@@ -164,14 +164,27 @@ module _ {C : Type 0} (ears : C → Ear) (answer : Heard → C → C × List Ord
         };
       })
 
+  -- what a front of frames tells is nothing, or what all tell: each before the last is quiet, or makes the end deaf
+  abbrev pub Hushed : List Frame → NodeState C → Type 0
+  Hushed [] n = Unit {0}
+  Hushed (f ∷ fs) n =
+      (fs ≡ []) ⊎ ((deaf ears answer (with_frame ears answer f n) ≡ true)
+      ⊎ (SameButPart (with_frame ears answer f n) n × Hushed fs (with_frame ears answer f n)))
+
+  abbrev pub Both : Heard → Assembly → Sent → List Frame → NodeState C → Type 0
+  Both h a m frames n = Tells h a m frames n × Hushed frames n
+
   refused : (code : ℕ) (m : Sent) (x : Frame) (xs : List Frame) (n : NodeState C) (a b : Assembly) → deaf ears answer n ≡ false → Deafens ears answer
-      → hearing (ears n.core) x n.channel.assembly ≡ says (said.Fault code) b → Tells (said.Fault code) a m (x ∷ xs) n
+      → hearing (ears n.core) x n.channel.assembly ≡ says (said.Fault code) b → Both (said.Fault code) a m (x ∷ xs) n
   refused code m x xs n a b e deafens is =
       let k = moved_node (length (sent_bytes m)) n in
       let t = record k { channel = with_assembly b k.channel } in
-      ap (with_frames ears answer xs) (frame_says x k (said.Fault code) b e is)
-      ∙ deaf_frames ears answer xs (told ears answer (said.Fault code) t) (told_deaf ears answer code t deafens)
-      ∙ told_forgets (said.Fault code) n.core k.channel.framing k.channel.framing b a n.channel (deafens code n.core)
+      let d = record n { channel = with_assembly b n.channel } in (
+        ap (with_frames ears answer xs) (frame_says x k (said.Fault code) b e is)
+            ∙ deaf_frames ears answer xs (told ears answer (said.Fault code) t) (told_deaf ears answer code t deafens)
+            ∙ told_forgets (said.Fault code) n.core k.channel.framing k.channel.framing b a n.channel (deafens code n.core),
+        inr (inl (ap (deaf ears answer) (frame_says x n (said.Fault code) b e is) ∙ told_deaf ears answer code d deafens)),
+      )
 
   uncons : (frames : List Frame) → (frames ≡ [] → ⊥) → (x : Frame) × (xs : List Frame) × (frames ≡ x ∷ xs)
   uncons [] some = absurd (some refl)
@@ -179,18 +192,18 @@ module _ {C : Type 0} (ears : C → Ear) (answer : Heard → C → C × List Ord
 
   -- a kind that isn't taken
   pub kind_refused : (k : Kind) (m : Sent) (n : NodeState C) (a : Assembly) → deaf ears answer n ≡ false → Deafens ears answer → takes (ears n.core) k ≡ false
-      → PartsBy k m.wire m.by → Tells (said.Fault bad_tcp_message_type_invalid) a m (placed n.channel.framing.place (wire_parts_by k m.wire m.by)) n
+      → PartsBy k m.wire m.by → Both (said.Fault bad_tcp_message_type_invalid) a m (placed n.channel.framing.place (wire_parts_by k m.wire m.by)) n
   kind_refused k m n a e deafens other parts =
       let frames = placed n.channel.framing.place (wire_parts_by k m.wire m.by) in
       let u = uncons frames (parts.some n.channel.framing.place) in
       let kinds = subst (λ fs. AllByRecursion (λ (f : Frame). f.kind ≡ k) fs) u.2 (parts.kinds n.channel.framing.place) in
-      subst (λ fs. Tells (said.Fault bad_tcp_message_type_invalid) a m fs n) (sym u.2)
+      subst (λ fs. Both (said.Fault bad_tcp_message_type_invalid) a m fs n) (sym u.2)
       (refused bad_tcp_message_type_invalid m u.0 u.1 n a n.channel.assembly e deafens (frame_refused (ears n.core) u.0 n.channel.assembly k kinds.0 other))
 
   -- the first chunk breaks a rule of the channel
   pub chunk_refused : (k : Kind) (code place : ℕ) (m : Sent) (n : NodeState C) (a : Assembly) (frames : List Frame) → (k ≡ kind.Msg) ⊎ (k ≡ kind.Clo)
       → deaf ears answer n ≡ false → Deafens ears answer → takes (ears n.core) k ≡ true → AllByRecursion (λ (f : Frame). f.kind ≡ k) frames
-      → RefusesFirst frames (record { place = place; code = code }) n.channel.assembly → Tells (said.Fault code) a m frames n
+      → RefusesFirst frames (record { place = place; code = code }) n.channel.assembly → Both (said.Fault code) a m frames n
   chunk_refused k code place m n a frames is e deafens taken kinds r =
       let b = n.channel.assembly in
       let first = subst (λ fs. AllByRecursion (λ (f : Frame). f.kind ≡ k) fs) r.are kinds in
@@ -198,7 +211,7 @@ module _ {C : Type 0} (ears : C → Ear) (answer : Heard → C → C × List Ord
       frame_takes (ears n.core) r.first b k first.0 taken
       ∙ chunk_of k r.first b is
       ∙ ap (λ (o : Option MessageFault). record { heard = chunk_said o k r.first b; assembly = after_frame r.first b }) r.breaks in
-      subst (λ fs. Tells (said.Fault code) a m fs n) (sym r.are)
+      subst (λ fs. Both (said.Fault code) a m fs n) (sym r.are)
       (refused code m r.first r.others n a (after_frame r.first b) e deafens hears)
 
   -- the chunks of a message that is taken
@@ -226,32 +239,57 @@ module _ {C : Type 0} (ears : C → Ear) (answer : Heard → C → C × List Ord
             ∙ led k x h fs (record n { channel = with_assembly b n.channel }) is e taken kinds.1 says_it more.1
       ]
 
+  led_hushed : (k : Kind) (x : Message) (frames : List Frame) (n : NodeState C) → (k ≡ kind.Msg) ⊎ (k ≡ kind.Clo) → deaf ears answer n ≡ false
+      → takes (ears n.core) k ≡ true → AllByRecursion (λ (f : Frame). f.kind ≡ k) frames → Leads frames x n.channel.assembly → Hushed frames n
+  led_hushed k x [] n is e taken kinds leads = absurd leads
+  led_hushed k x (f ∷ fs) n is e taken kinds leads = elim leads.1 [
+    | inl last ↦ inl last.0
+    | inr more ↦
+        let a = n.channel.assembly in
+        let b = after_frame f a in
+        let next = record n { channel = with_assembly b n.channel } in
+        let same : with_frame ears answer f n ≡ next =
+        open_frame ears answer f n e
+        ∙ ap (λ (y : Hearing). after_hearing ears answer y n)
+        (frame_takes (ears n.core) f a k kinds.0 taken
+        ∙ chunk_of k f a is
+        ∙ ap (λ (o : Option MessageFault). record { heard = chunk_said o k f a; assembly = b }) leads.0
+        ∙ ap (λ (o : Option Message). record { heard = message_said k o; assembly = b }) more.0
+        ∙ ap (λ (o : Option Heard). record { heard = o; assembly = b }) (nothing_said k)) in
+        inr (inr (subst (λ (m : NodeState C). SameButPart m n × Hushed fs m) (sym same)
+        (record { core = refl; sending = refl; out = refl }, led_hushed k x fs next is e taken kinds.1 more.1)))
+  ]
+
   -- ---- a message, by its kind
 
   -- what a node hears of it, and what it leaves
   pub record Hears (k : Kind) (m : Sent) (n : NodeState C) : Type 0 where
     pub tells : Tells (heard_in ears answer m n) (assembly_after k m n.channel.framing.place n.channel.assembly) m (placed n.channel.framing.place (wire_parts_by k m.wire m.by)) n
+    pub hushed : Hushed (placed n.channel.framing.place (wire_parts_by k m.wire m.by)) n
     pub outcome : Outcome (heard_in ears answer m n) m n.channel (assembly_after k m n.channel.framing.place n.channel.assembly)
         (hearing_of (ears n.core) m.wire (tokens_of n.channel.assembly)).tokens
 
   hears_fault : (k : Kind) (code : ℕ) (m : Sent) (n : NodeState C) → hearing_of (ears n.core) m.wire (tokens_of n.channel.assembly) ≡ judges (said.Fault code) (tokens_of n.channel.assembly)
-      → Tells (said.Fault code) (assembly_after k m n.channel.framing.place n.channel.assembly) m (placed n.channel.framing.place (wire_parts_by k m.wire m.by)) n
+      → Both (said.Fault code) (assembly_after k m n.channel.framing.place n.channel.assembly) m (placed n.channel.framing.place (wire_parts_by k m.wire m.by)) n
       → Hears k m n
-  hears_fault k code m n e tells =
+  hears_fault k code m n e both =
       let same : heard_in ears answer m n ≡ said.Fault code = ap (λ (j : Judged). j.heard) e in
       record {
-        tells = subst (λ h. Tells h (assembly_after k m n.channel.framing.place n.channel.assembly) m (placed n.channel.framing.place (wire_parts_by k m.wire m.by)) n) (sym same) tells;
+        tells = subst (λ h. Tells h (assembly_after k m n.channel.framing.place n.channel.assembly) m (placed n.channel.framing.place (wire_parts_by k m.wire m.by)) n) (sym same) both.0;
+        hushed = both.1;
         outcome = inl (code, same);
       }
 
   hears_message : (k : Kind) (h : Heard) (t : Tokens) (m : Sent) (n : NodeState C) → hearing_of (ears n.core) m.wire (tokens_of n.channel.assembly) ≡ judges h t
       → Tells h (assembly_after k m n.channel.framing.place n.channel.assembly) m (placed n.channel.framing.place (wire_parts_by k m.wire m.by)) n
+      → Hushed (placed n.channel.framing.place (wire_parts_by k m.wire m.by)) n
       → Goes m n.channel (assembly_after k m n.channel.framing.place n.channel.assembly) t
       → Hears k m n
-  hears_message k h t m n e tells goes =
+  hears_message k h t m n e tells hushed goes =
       let a = assembly_after k m n.channel.framing.place n.channel.assembly in
       record {
         tells = subst (λ (j : Judged). Tells j.heard a m (placed n.channel.framing.place (wire_parts_by k m.wire m.by)) n) (sym e) tells;
+        hushed = hushed;
         outcome = inr (subst (λ (j : Judged). Goes m n.channel a j.tokens) (sym e) goes);
       }
 
@@ -266,6 +304,7 @@ module _ {C : Type 0} (ears : C → Ear) (answer : Heard → C → C × List Ord
       (subst (λ fs. Tells h (assembly_after k m n.channel.framing.place a) m fs n) (sym are)
       (subst (λ b. Tells h b m (x ∷ []) n) (sym left)
       (frame_says x (moved_node (length (sent_bytes m)) n) h a e (frame_takes (ears n.core) x a k kind_is taken ∙ frame_is))))
+      (subst (λ fs. Hushed fs n) (sym are) (inl refl))
       (subst (λ b. Goes m n.channel b (tokens_of a)) (sym left) (greeting_goes k m n.channel same stays follows.expects))
 
   opn_hears : (m : Sent) (n : NodeState C) → m.wire.kind ≡ kind.Opn → deaf ears answer n ≡ false → Follows m n.channel → takes (ears n.core) kind.Opn ≡ true → Hears kind.Opn m n
@@ -285,6 +324,7 @@ module _ {C : Type 0} (ears : C → Ear) (answer : Heard → C → C × List Ord
       let next : after_sent m ≡ record s { next = after_chunk s.next } = ap (λ (k : Kind). after_put k w.request w.body s) same in
       hears_message kind.Opn h (tokens_of a) m n (wire_takes (ears n.core) w (tokens_of a) kind.Opn same taken)
       (frame_says x (moved_node (length (sent_bytes m)) n) h (with_number s.next a) e (frame_takes (ears n.core) x a kind.Opn refl taken ∙ reads))
+      (inl refl)
       (record {
         expects = record {
           number = subst (λ (r : Sending). takes_number r.next (Some s.next) ≡ true) (sym next) (number_follows s.next);
@@ -363,6 +403,7 @@ module _ {C : Type 0} (ears : C → Ear) (answer : Heard → C → C × List Ord
       hears_message k h (used m.wire.token t) m n judged
       (subst (λ b. Tells h b m frames n) (sym left)
       (led k (message_put (put_in k m.wire)) h frames (moved_node (length (sent_bytes m)) n) is e taken (parts.kinds place) says_it leads))
+      (led_hushed k (message_put (put_in k m.wire)) frames n is e taken (parts.kinds place) leads)
       (subst (λ b. Goes m n.channel b (used m.wire.token t)) (sym left) (record {
         expects = record {
           number = in_step.number;

@@ -3,3 +3,4 @@ pub mod Slots
 pub mod Parting
 pub mod Coming
 pub mod Showing
+pub mod Beginning

@@ -236,3 +236,23 @@ module _ {C : Type 0} (ears : C → Ear) (answer : Heard → C → C × List Ord
       → AreLawful (answer (heard_in ears answer m n) n.core).1 n.channel.sending → Shows first n k
       → Shows first (heard_next ears answer m n) (message_after ears answer m.wire k)
   shows_next first m n k deafens ready lawful s = shows_by (deaf ears answer n) first m n k deafens refl ready lawful s
+
+  -- ---- orders and bytes taken
+
+  pub shows_ordered : (first : ℕ) (os : List Order) (n : NodeState C) (k : MessageState C) → AreLawful os n.channel.sending → Shows first n k
+      → Shows first (record n { channel = obeyed_all os n.channel }) (obeyed_messages os k)
+  shows_ordered first os n k lawful s =
+      let p = puts_all first os n.channel k lawful (record { sending = s.sending; sent = s.sent; wires = s.wires; bytes = s.bytes; chain = s.chain }) in
+      record {
+        core = s.core ∙ sym (core_kept os k);
+        tokens = tokens_all os n.channel k s.tokens;
+        sending = p.sending;
+        sent = p.sent;
+        wires = p.wires;
+        bytes = p.bytes;
+        chain = p.chain;
+      }
+
+  pub shows_taken : (first : ℕ) (n : NodeState C) (k : MessageState C) → Shows first n k
+      → Shows n.channel.sending.next (record n { channel = record n.channel { out = [] } }) (record k { out = [] })
+  shows_taken first n k s = record { core = s.core; tokens = s.tokens; sending = s.sending; sent = []; wires = refl; bytes = refl; chain = refl }

@@ -14,7 +14,7 @@ use Rattle.ua_channel.specs.declared.wire.Order.TheVariants as order
 use Rattle.ua_channel.specs.State.{ChannelState, MayCarry, WireState}
 use Rattle.ua_channel.specs.Orders.{after_wire, is_fitting, renewed_for, wire_bytes, wire_parts_by}
 use Rattle.ua_channel.specs.Messages.{MessageState, hearing_of}
-use Rattle.ua_channel.specs.Node.{NodeState, deaf, told}
+use Rattle.ua_channel.specs.Node.{NodeState, deaf, node_after, told}
 
 -- ---- a message put
 
@@ -113,6 +113,20 @@ module _ {C : Type 0} (ears : C → Ear) (answer : Heard → C → C × List Ord
   abbrev pub Arrive : List Sent → NodeState C → Type 0
   Arrive [] n = Unit {0}
   Arrive (m ∷ sent) n = ((deaf ears answer n ≡ true) ⊎ Follows m n.channel) × Arrive sent (heard_next m n)
+
+-- two ends that differ in what came and is no whole message alone
+pub record SameButPart {C : Type 0} (n k : NodeState C) : Type 0 where
+  pub core : n.core ≡ k.core
+  pub sending : n.channel.sending ≡ k.channel.sending
+  pub out : n.channel.out ≡ k.channel.out
+
+module _ {C : Type 0} (ears : C → Ear) (answer : Heard → C → C × List Order) where
+  -- of some first bytes of messages the core heard the first of the messages, and nothing else
+  pub record HearsFront (front : List ℕ) (sent : List Sent) (n : NodeState C) : Type 0 where
+    pub before : List Sent
+    pub later : List Sent
+    pub are : sent ≡ before ++ later
+    pub same : SameButPart (node_after ears answer front n) (heard_all ears answer before n)
 
 -- an end over bytes and one over messages: the same core and tokens, and what was put and not taken is the bytes of the
 -- messages, whose numbers go on from `first`

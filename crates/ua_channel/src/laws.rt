@@ -2,9 +2,11 @@
 
 ghost use Rattle.std.specs.Prelude.{[], ◌≡◌, ◌⊎◌, ℕ, List, ◌++◌, true};
 ghost use Rattle.ua_channel.specs.Arriving.{AreLawful, Arrive, Expects, Follows, Sent, Shows, after_sent, bytes_of};
-ghost use Rattle.ua_channel.specs.Arriving.{heard_all, heard_in, heard_next};
-ghost use Rattle.ua_channel.specs.Messages.{MessageState, message_after, no_tokens};
+ghost use Rattle.ua_channel.specs.Arriving.{HearsFront, heard_all, heard_in, heard_next};
+ghost use Rattle.ua_channel.specs.declared.wire.Order.{Order};
+ghost use Rattle.ua_channel.specs.Messages.{MessageState, message_after, no_tokens, obeyed_messages};
 ghost use Rattle.ua_channel.specs.Node.{Deafens, NodeState, deaf, node_after, node_of};
+ghost use Rattle.ua_channel.specs.Orders.{obeyed_all};
 ghost use Rattle.ua_channel.specs.State.{new_channel};
 
 use crate::node::Core;
@@ -27,6 +29,14 @@ pub fn messages_are_heard<C: Core>()
         ≡ heard_all (C.ears conn) (C.answer conn) sent n }
 {}
 
+/// Of some first bytes of these messages the core hears the first of the messages, as they were put, and nothing else:
+/// no fault, whatever of the next message has come.
+pub fn fronts_are_heard<C: Core>()
+    ensures { (conn : ℕ) (front more : List ℕ) (sent : List Sent) (n : NodeState C)
+        → Deafens (C.ears conn) (C.answer conn) → Arrive (C.ears conn) (C.answer conn) sent n
+        → front ++ more ≡ bytes_of sent → HearsFront (C.ears conn) (C.answer conn) front sent n }
+{}
+
 /// An end that hears a message, and isn't deaf then, awaits the number after it.
 pub fn numbers_go_on<C: Core>()
     ensures { (conn : ℕ) (m : Sent) (n : NodeState C) → Deafens (C.ears conn) (C.answer conn) → Follows m n.channel
@@ -35,7 +45,8 @@ pub fn numbers_go_on<C: Core>()
 {}
 
 /// An end over whole messages, without bytes, pieces and numbers, shows what the end over bytes does, step by step: the
-/// same core, the same tokens, and of the messages put the bytes in their order.
+/// same core, the same tokens, and of the messages put the bytes in their order. So it does where orders come from
+/// elsewhere, and where the bytes are taken.
 pub fn messages_show_bytes<C: Core>()
     ensures begin { (core : C) → Shows 1 (node_of core new_channel)
         (record { core = core; tokens = no_tokens; out = [] }) }
@@ -46,4 +57,10 @@ pub fn messages_show_bytes<C: Core>()
         → Shows first n k
         → Shows first (heard_next (C.ears conn) (C.answer conn) m n)
         (message_after (C.ears conn) (C.answer conn) m.wire k) }
+    ensures ordered { (first : ℕ) (orders : List Order) (n : NodeState C) (k : MessageState C)
+        → AreLawful orders n.channel.sending → Shows first n k
+        → Shows first (record n { channel = obeyed_all orders n.channel }) (obeyed_messages orders k) }
+    ensures taken { (first : ℕ) (n : NodeState C) (k : MessageState C) → Shows first n k
+        → Shows n.channel.sending.next (record n { channel = record n.channel { out = [] } })
+        (record k { out = [] }) }
 {}

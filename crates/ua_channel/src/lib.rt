@@ -15,6 +15,8 @@ pub use channels::Channels;
 pub use ear::Ear;
 pub use fault::ChannelFault;
 pub use heard::Heard;
-pub use laws::{messages_are_heard, messages_show_bytes, numbers_go_on, pieces_are_one};
+pub use laws::{
+    fronts_are_heard, messages_are_heard, messages_show_bytes, numbers_go_on, pieces_are_one,
+};
 pub use node::{Core, take_bytes};
 pub use wire::{Limits, Order, Wire};
