@@ -5,6 +5,7 @@ use crate::elements::{tell_copied, tell_part};
 use crate::kinds::tell_kind;
 use crate::messages::{tell_header, tell_message};
 use crate::objects::tell_object;
+use crate::services::tell_service;
 use rows::{Driver, Stop, Types, Verb, answer_asked, number};
 use std::alloc::Global;
 
@@ -25,6 +26,7 @@ impl Types for Bodies {
                 tell_message(alloc, verb, name, bytes, to)
             }
             "header" => tell_header(alloc, verb, bytes, to),
+            "request" | "reply" => tell_service(alloc, verb, name, bytes, to),
             "identity" | "filter" | "notification" | "sole.object" => {
                 tell_object(alloc, verb, name, bytes, to)
             }

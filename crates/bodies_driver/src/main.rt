@@ -9,6 +9,7 @@ mod elements;
 mod kinds;
 mod messages;
 mod objects;
+mod services;
 mod sole;
 
 use bodies::Bodies;

@@ -1,4 +1,5 @@
--- The requests of both families as one family, and the replies: which structure may be a body, and how a value of each is written.
+-- The requests of both families as one family, and the replies: which structure may be a body, and how a value of each
+-- is written.
 use Rattle.std.specs.Prelude.{◌≡◌, ◌==◌, ◌<◌, ◌^◌, ℕ, List, ◌++◌, map, Some, refl}
 use Rattle.std.specs.List.{find}
 use Rattle.ua_values.specs.Reading.{◌>>=◌, give}
@@ -41,7 +42,8 @@ request_id (request_type.Session k) = session_numbers.request_id k
 request_id (request_type.Subscription k) = sub_numbers.request_id k
 
 abbrev pub every_request : List RequestType
-every_request = map request_type.Session session_numbers.every_request ++ map request_type.Subscription sub_numbers.every_request
+every_request =
+    map request_type.Session session_numbers.every_request ++ map request_type.Subscription sub_numbers.every_request
 
 -- no two have one number
 pub request_known : (k : RequestType) → find (λ other. request_id other == request_id k) every_request ≡ Some k
@@ -74,7 +76,8 @@ request_case (request_type.Session k) = within (session.request_case k) request.
 request_case (request_type.Subscription k) = within (sub.request_case k) request.Subscription
 
 abbrev pub requests : Family RequestType Request
-requests = record { all = every_request; id = request_id; cases = request_case; known = request_known; small = request_small }
+requests =
+    record { all = every_request; id = request_id; cases = request_case; known = request_known; small = request_small }
 
 abbrev pub request_put : Request → Put RequestType
 request_put (request.Session r) = put_within request_type.Session (session.request_put r)

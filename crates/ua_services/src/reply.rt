@@ -158,8 +158,8 @@ impl Body for Reply {
 ///
 /// # Errors
 ///
-/// `Unknown` where its type reads and is that of no reply; `Bad` where the type or the structure doesn't read, ends early or has bytes
-/// left over.
+/// `Unknown` where its type reads and is that of no reply; `Bad` where the type or the structure doesn't read, ends
+/// early or has bytes left over.
 pub fn read_reply(alloc: Global, body: &[u8]) -> Result<Reply, BodyFault>
     ensures exact { Answers result (body_at replies body.now) }
     ensures spelled { IsBodyRead replies body.now result }

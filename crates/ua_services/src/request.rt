@@ -2,7 +2,8 @@ ghost use Rattle.std.specs.Prelude.{◌≡◌, ◌++◌, OnOk, OnErr, Err};
 ghost use Rattle.ua_structures.specs.declared.body.BodyFault.{BodyFault};
 ghost use Rattle.ua_structures.specs.Body.{service, body_at, body_type_at, Answers};
 ghost use Rattle.ua_services.specs.Families.{request_id, request_put, requests, written_request};
-ghost use Rattle.ua_services.specs.Requests.{Asks, asked_of, header_of, is_service, request_at, session_header, sub_header, told};
+ghost use Rattle.ua_services.specs.Requests.{Asks, IsAsked, asked_of, header_of, is_service, request_at};
+ghost use Rattle.ua_services.specs.Requests.{session_header, sub_header, told};
 
 use std::alloc::Global;
 use thiserror::Error;
@@ -47,7 +48,8 @@ impl RequestType {
         }
     }
 
-    /// Whether a message may ask for it: a secure channel is opened and closed by chunks of their own kinds (OPC 10000-6, 6.7.2).
+    /// Whether a message may ask for it: a secure channel is opened and closed by chunks of their own kinds (OPC
+    /// 10000-6, 6.7.2).
     pub fn is_service(self) -> bool
         ensures { result ≡ is_service self }
     {
@@ -172,7 +174,8 @@ impl Body for Request {
 /// Why the body of a message asks for no service.
 #[derive(Clone, Copy, Debug, PartialEq, Eq, Error)]
 pub enum RequestFault {
-    /// Its type or the header behind it doesn't read, so nobody knows which request a reply would belong to: Bad_DecodingError.
+    /// Its type or the header behind it doesn't read, so nobody knows which request a reply would belong to:
+    /// Bad_DecodingError.
     #[error("a request without a header")]
     Header,
     /// The header reads, and the type is that of no service of a message: Bad_ServiceUnsupported.
@@ -242,18 +245,26 @@ fn tell<T: Drop>(
     }
 }
 
-/// Reads what the body of a message asks for, the whole body.
-///
-/// # Errors
-///
-/// `Header` where the type or the header behind it doesn't read; else `Service` where the type is that of no service of a message,
-/// whatever stands behind the header; else `Body` where the structure doesn't read, ends early or has bytes left over.
-pub fn read_request(alloc: Global, body: &[u8]) -> Result<Request, RequestFault>
+fn read_asked(alloc: Global, body: &[u8]) -> Result<Request, RequestFault>
     ensures { Asks result (request_at body.now) }
 {
     let read = read_body(alloc, body);
     let refusal = refusal_of(alloc, body, &read);
     tell(read, refusal)
+}
+
+/// Reads what the body of a message asks for, the whole body.
+///
+/// # Errors
+///
+/// `Header` where the type or the header behind it doesn't read; else `Service` where the type is that of no service
+/// of a message, whatever stands behind the header; else `Body` where the structure doesn't read, ends early or has
+/// bytes left over.
+pub fn read_request(alloc: Global, body: &[u8]) -> Result<Request, RequestFault>
+    ensures exact { Asks result (request_at body.now) }
+    ensures asked { IsAsked body.now result }
+{
+    read_asked(alloc, body)
 }
 
 /// Appends the body of a request, or nothing where memory is refused.
