@@ -43,10 +43,11 @@ trustworthy rules bytes lines h =
 ok_is : (report text : List ℕ) → ◌≡◌ {A = Result (List ℕ) ScenarioFault} (Ok report) (Ok text) → text ≡ report
 ok_is report text e = cc
 
-promised : (bytes text : List ℕ) (scenario : Result (List Line) ScenarioFault) → scenario_of (rules_of_replay 0) bytes ≡ scenario → answer_by scenario ≡ Ok text → Means command.Replay bytes text
-promised bytes text (Ok lines) is h = (lines, is, ok_is (report_text (client_log lines)) text h, trustworthy (rules_of_replay 0) bytes lines is)
-promised bytes text (Err fault) is h = absurd cc
+promised : (pool : ℕ) (bytes text : List ℕ) (scenario : Result (List Line) ScenarioFault) → scenario_of (rules_of_replay pool) bytes ≡ scenario → answer_by scenario ≡ Ok text
+    → Means pool command.Replay bytes text
+promised pool bytes text (Ok lines) is h = (lines, is, ok_is (report_text (client_log lines)) text h, trustworthy (rules_of_replay pool) bytes lines is)
+promised pool bytes text (Err fault) is h = absurd cc
 
 -- a report is that of a scenario whose log can be trusted
-pub report_promised : (bytes text : List ℕ) → answer_of bytes ≡ Ok text → Means command.Replay bytes text
-report_promised bytes text h = promised bytes text (scenario_of (rules_of_replay 0) bytes) refl h
+pub report_promised : (pool : ℕ) (bytes text : List ℕ) → answer_of pool bytes ≡ Ok text → Means pool command.Replay bytes text
+report_promised pool bytes text h = promised pool bytes text (scenario_of (rules_of_replay pool) bytes) refl h

@@ -61,6 +61,6 @@ Renders shown (Ok text) answer = answer ≡ Ok (shown text)
 Renders shown (Err (errors.Fault fault)) answer = answer ≡ Err fault
 Renders shown (Err errors.OutOfMemory) answer = Unit {0}
 
--- the report, or the first faulty line; no listeners are there yet
-abbrev pub answer_of : List ℕ → Result (List ℕ) ScenarioFault
-answer_of bytes = answer_by (scenario_of (rules_of_replay 0) bytes)
+-- the report, or the first faulty line, where so many listeners may be attached
+abbrev pub answer_of : ℕ → List ℕ → Result (List ℕ) ScenarioFault
+answer_of pool bytes = answer_by (scenario_of (rules_of_replay pool) bytes)

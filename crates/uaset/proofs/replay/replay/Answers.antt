@@ -7,8 +7,8 @@ use Rattle.uaset.proofs.replay.replay.Goals as goal
 
 pub report_lines-requires-clause-least : goal.report_lines-requires-clause-least
 report_lines-requires-clause-least c =
-    omega (arith, ap (λ (lines : List Line). (size_of lines).queue) c.as_slice.ensures.value, (queue_fits (rules_of_replay 0) c.args.bytes.now c.in_ok-lines.lines.items c.in_ok-lines.ensures).0)
+    omega (arith, ap (λ (lines : List Line). (size_of lines).queue) c.as_slice.ensures.value, (queue_fits (rules_of_replay c.args.pool) c.args.bytes.now c.in_ok-lines.lines.items c.in_ok-lines.ensures).0)
 
 pub report_lines-requires-clause-most : goal.report_lines-requires-clause-most
 report_lines-requires-clause-most c =
-    omega (arith, ap (λ (lines : List Line). (size_of lines).queue) c.as_slice.ensures.value, (queue_fits (rules_of_replay 0) c.args.bytes.now c.in_ok-lines.lines.items c.in_ok-lines.ensures).1)
+    omega (arith, ap (λ (lines : List Line). (size_of lines).queue) c.as_slice.ensures.value, (queue_fits (rules_of_replay c.args.pool) c.args.bytes.now c.in_ok-lines.lines.items c.in_ok-lines.ensures).1)
