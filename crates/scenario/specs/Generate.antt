@@ -16,7 +16,7 @@ next_state state = (state * 6364136223846793005 + 1442695040888963407) % 2 ^ 64
 unfoldable pub drawn : ℕ → ℕ → ℕ
 drawn below state = (state / 2 ^ 33) % below
 
--- what the first, the second and the third draw from a state give
+-- what the first and the second draw from a state give
 abbrev pub first_draw : ℕ → ℕ → ℕ
 first_draw below state = drawn below (next_state state)
 

@@ -17,7 +17,7 @@ abbrev pub AllUpTo : ℕ → ℕ → List Change → Type 0
 AllUpTo time value [] = Unit {0}
 AllUpTo time value (change ∷ changes) = IsUpTo time value change × AllUpTo time value changes
 
--- the lines of a set over bytes, not yet at the end, whose changes have times up to this one and values up to their count
+-- the lines of a set over bytes, not yet at the end; times of changes are up to this one, and values up to their count
 pub record IsSound (time : ℕ) (lines : List Line) : Type 0 where
   pub long : 2 ≤ length lines
   pub over_bytes : is_direct_in lines ≡ false

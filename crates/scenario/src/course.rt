@@ -4,7 +4,8 @@ ghost use Rattle.scenario.specs.declared.line.Line.TheVariants as line;
 ghost use Rattle.scenario.specs.Past.{changes_in, items_in, servers_in};
 ghost use Rattle.scenario.specs.Generate.{change_drawn, changed, course_of, first_draw, generated, items_drawn};
 ghost use Rattle.scenario.specs.Generate.{level_or_pass, line_drawn, mode_of_draw, next_state, one_more, other};
-ghost use Rattle.scenario.specs.Generate.{befalling_drawn, begun, by_number, run_or_start, second_draw, server_drawn, set_drawn};
+ghost use Rattle.scenario.specs.Generate.{befalling_drawn, begun, by_number};
+ghost use Rattle.scenario.specs.Generate.{run_or_start, second_draw, server_drawn, set_drawn};
 ghost use Rattle.scenario.specs.Generate.{start_or_pass, state_drawn};
 ghost use Rattle.scenario.specs.Sound.{IsSound};
 
@@ -138,7 +139,8 @@ fn draw_feed(dice: &mut Dice, before: &Reader) -> Line
 fn draw_level(dice: &mut Dice, before: &Reader) -> Line
     requires least { 1 ≤ servers_in before.now }
     requires most { servers_in before.now ≤ 8 }
-    ensures line { result ≡ level_or_pass before.now (server_drawn before.now dice.old.state) (second_draw 256 dice.old.state) }
+    ensures line { result ≡ level_or_pass before.now (server_drawn before.now dice.old.state)
+        (second_draw 256 dice.old.state) }
     ensures state { dice.new.state ≡ next_state (next_state dice.old.state) }
 {
     let server = draw_server(dice, before);

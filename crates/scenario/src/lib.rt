@@ -14,6 +14,7 @@ mod table;
 mod tally;
 mod text;
 mod words;
+mod worked;
 
 pub use course::generate;
 pub use fault::{FaultKind, ReadError, ScenarioFault};
@@ -21,5 +22,5 @@ pub use form::Form;
 pub use laws::{generated_lines, grammar, reads_what_was_written, scenarios_are_read, valid_lines};
 pub use line::Line;
 pub use rules::{Allowed, Built, MOST_CHANGES, MOST_LINES, Rules, Sets};
-pub use table::{Argument, Arguments, Group, Modes, Name, Need, Numbers, Row};
+pub use table::{Name, Numbers};
 pub use text::{read, read_by, write};

@@ -110,7 +110,8 @@ fn set_line(rules: Rules, mode: SetMode, servers: u64) -> Result<Line, FaultKind
 }
 
 fn items_line(items: u64, queue: u64, oldest: bool) -> Result<Line, FaultKind>
-    ensures { (rules : Rules) (before : List Line) → result ≡ content_verdict rules before (form.Items items queue oldest) }
+    ensures { (rules : Rules) (before : List Line) →
+        result ≡ content_verdict rules before (form.Items items queue oldest) }
 {
     let items = within(items, 1, 64)? as u8;
     let queue = within(queue, 2, 1000)?;

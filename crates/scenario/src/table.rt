@@ -5,6 +5,8 @@ ghost use Rattle.scenario.specs.declared.table.Arguments.TheVariants as argument
 ghost use Rattle.scenario.specs.Table.{first_of, line_with, name_of, row_of, row_with, second_of, word_of};
 ghost use Rattle.scenario.specs.Reading.{AreSmall};
 
+use self::Group::{Common, Links, Listeners, Servers};
+use self::Modes::{All, Direct, OverBytes};
 use crate::line::Line;
 use std::fmt;
 
@@ -196,64 +198,27 @@ impl Name {
     }
 
     /// What the table says of the line.
-    pub fn row(self) -> Row
+    pub(crate) fn row(self) -> Row
         ensures { result ≡ row_of self }
     {
         let server = Arguments::One(Argument::Server);
+        let item = Arguments::One(Argument::Item);
         match self {
-            Name::Feed => row_with(
-                Group::Common,
-                Modes::All,
-                server_and(1, 200_000),
-                Need::Running,
-            ),
-            Name::Take => row_with(
-                Group::Common,
-                Modes::Direct,
-                server_and(1, 1000),
-                Need::Running,
-            ),
-            Name::Tick => row_with(
-                Group::Common,
-                Modes::OverBytes,
-                number(1, 3_600_000),
-                Need::Nothing,
-            ),
-            Name::Pass => row_with(
-                Group::Common,
-                Modes::OverBytes,
-                number(1, 1000),
-                Need::Nothing,
-            ),
-            Name::Piece => row_with(
-                Group::Common,
-                Modes::OverBytes,
-                number(1, 1_048_576),
-                Need::Nothing,
-            ),
-            Name::Level => row_with(
-                Group::Servers,
-                Modes::OverBytes,
-                server_and(0, 255),
-                Need::Running,
-            ),
-            Name::Stop => row_with(Group::Servers, Modes::All, server, Need::Running),
-            Name::Start => row_with(Group::Servers, Modes::All, server, Need::Stopped),
-            Name::Cut => row_with(Group::Links, Modes::OverBytes, server, Need::Nothing),
-            Name::Half => row_with(Group::Links, Modes::OverBytes, server, Need::Nothing),
-            Name::Hold => row_with(Group::Servers, Modes::OverBytes, server, Need::Nothing),
-            Name::Free => row_with(Group::Servers, Modes::OverBytes, server, Need::Nothing),
-            Name::Listen => {
-                let item = Arguments::One(Argument::Item);
-                row_with(Group::Listeners, Modes::All, item, Need::Listener)
-            }
-            Name::Unlisten => row_with(
-                Group::Listeners,
-                Modes::All,
-                number(1, 255),
-                Need::Attached,
-            ),
-            Name::End => row_with(Group::Common, Modes::All, Arguments::Nothing, Need::Nothing),
+            Name::Feed => row_with(Common, All, server_and(1, 200_000), Need::Running),
+            Name::Take => row_with(Common, Direct, server_and(1, 1000), Need::Running),
+            Name::Tick => row_with(Common, OverBytes, number(1, 3_600_000), Need::Nothing),
+            Name::Pass => row_with(Common, OverBytes, number(1, 1000), Need::Nothing),
+            Name::Piece => row_with(Common, OverBytes, number(1, 1_048_576), Need::Nothing),
+            Name::Level => row_with(Servers, OverBytes, server_and(0, 255), Need::Running),
+            Name::Stop => row_with(Servers, All, server, Need::Running),
+            Name::Start => row_with(Servers, All, server, Need::Stopped),
+            Name::Cut => row_with(Links, OverBytes, server, Need::Nothing),
+            Name::Half => row_with(Links, OverBytes, server, Need::Nothing),
+            Name::Hold => row_with(Servers, OverBytes, server, Need::Nothing),
+            Name::Free => row_with(Servers, OverBytes, server, Need::Nothing),
+            Name::Listen => row_with(Listeners, All, item, Need::Listener),
+            Name::Unlisten => row_with(Listeners, All, number(1, 255), Need::Attached),
+            Name::End => row_with(Common, All, Arguments::Nothing, Need::Nothing),
         }
     }
 

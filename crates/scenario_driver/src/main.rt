@@ -1,5 +1,6 @@
-//! Reads lines from standard input and answers each before it reads the next: what is read and written of scenarios, and
-//! those that are made from a seed. It is for the cases, and promises nothing. `cases/scenario` tells how its rows stand.
+//! Reads lines from standard input and answers each before it reads the next: what is read and written of scenarios,
+//! and those that are made from a seed. It is for the cases, and promises nothing. `cases/scenario` tells how its rows
+//! stand.
 #![tactic(auto)]
 
 mod calls;
