@@ -14,5 +14,5 @@ pub use asking::{Types, answer_asked};
 pub use digits::{bytes_of, decode, put_bytes};
 pub use driver::{Driver, answer_all, end};
 pub use stop::Stop;
-pub use telling::{BEFORE, Kind, Verb, put_behind, put_debug, put_place, tell, tell_front};
+pub use telling::{BEFORE, Kind, Verb, begun, put_behind, put_debug, put_place, tell, tell_front};
 pub use words::{number, positive, put, put_bar, put_lines, put_number, put_truth, truth};

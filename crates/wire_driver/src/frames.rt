@@ -130,7 +130,11 @@ fn put_rest(alloc: Global, framer: &Framer, to: &mut String) -> Result<(), Stop>
 }
 
 /// Appends the fault, where there is one.
-fn put_answer(alloc: Global, answer: Result<(), FrameFault>, to: &mut String) -> Result<(), Stop> {
+pub(crate) fn put_answer(
+    alloc: Global,
+    answer: Result<(), FrameFault>,
+    to: &mut String,
+) -> Result<(), Stop> {
     match answer {
         Ok(()) => Ok(()),
         Err(fault) => {
