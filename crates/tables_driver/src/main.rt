@@ -8,7 +8,6 @@ mod log_calls;
 mod log_lines;
 mod node_calls;
 mod queue_calls;
-mod scenario_calls;
 mod session_calls;
 mod source_calls;
 mod tables;

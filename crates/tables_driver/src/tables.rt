@@ -6,7 +6,7 @@ use crate::node_calls::{NodeTable, answer_class};
 use crate::queue_calls::QueueTable;
 use crate::session_calls::SessionTable;
 use crate::source_calls::SourceTable;
-use crate::{base_calls, scenario_calls};
+use crate::base_calls;
 use rows::{Driver, Stop};
 use std::alloc::Global;
 
@@ -46,7 +46,6 @@ impl Driver for Tables {
             ["queue", call @ ..] => self.queue.answer(alloc, call, to),
             ["log", call @ ..] => self.log.answer(alloc, call, to),
             ["source", call @ ..] => self.source.answer(alloc, call, to),
-            ["scenario", pool, text @ ..] => scenario_calls::answer(alloc, pool, text, to),
             ["judge", last, joint, time, marked] => {
                 answer_judge(alloc, [last, joint, time, marked], to)
             }

@@ -6,6 +6,7 @@ use Rattle.set_model.specs.Report.{report_text}
 use Rattle.scenario.specs.declared.line.Line.{Line}
 use Rattle.scenario.specs.declared.fault.ScenarioFault.{ScenarioFault}
 use Rattle.scenario.specs.Past.{changes_in}
+use Rattle.scenario.specs.Rules.{rules_of_replay}
 use Rattle.scenario.specs.Scenario.{scenario_of}
 use Rattle.direct_world.specs.Plain.{IsPlain}
 use Rattle.ua_variants.specs.declared.variant.Variant.{Variant}
@@ -72,7 +73,7 @@ pub record IsTrustworthy (lines : List Line) : Type 0 where
 -- line for each of the frames that the input begins with, as many as there are, and how many bytes follow
 abbrev pub Means : ℕ → Command → List ℕ → List ℕ → Type 0
 Means pool command.Replay bytes text =
-    (lines : List Line) × (scenario_of pool bytes ≡ Ok lines) × (text ≡ report_text (client_log lines))
+    (lines : List Line) × (scenario_of (rules_of_replay pool) bytes ≡ Ok lines) × (text ≡ report_text (client_log lines))
     × IsTrustworthy lines
 Means pool command.ShowValue bytes text = (d : Stamped Variant) × data_value 101 d bytes × (text ≡ value_text d)
 Means pool command.ShowStream bytes text =

@@ -35,9 +35,9 @@ abbrev pub ◌>>=◌ : {A B : Type 0} → Result A ℕ → (A → Result B ℕ) 
 (Err place) >>= f = Err place
 
 -- what the code answers, as `shown`, is what a definition gives
-abbrev pub Gives : {A B : Type 0} → (A → B) → Result A ℕ → Result B ℕ → Type 0
-Gives shown (Ok answer) read = read ≡ Ok (shown answer)
-Gives shown (Err place) read = read ≡ Err place
+abbrev pub Yields : {A B : Type 0} → (A → B) → Result A ℕ → Result B ℕ → Type 0
+Yields shown (Ok answer) read = read ≡ Ok (shown answer)
+Yields shown (Err place) read = read ≡ Err place
 
 -- the words behind this one
 abbrev pub behind : List ℕ → ℕ → List (List ℕ) → Result (List (List ℕ)) ℕ

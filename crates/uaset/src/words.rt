@@ -1,7 +1,7 @@
 //! The words of a command.
 
 ghost use Rattle.std.specs.Prelude.{◌≡◌, map};
-ghost use Rattle.uaset.specs.Words.{Gives, behind, command_of, farther, no_more, read_row};
+ghost use Rattle.uaset.specs.Words.{Yields, behind, command_of, farther, no_more, read_row};
 ghost use Rattle.uaset.specs.Words.{replay_row, stream_row, value_row};
 
 /// What the program may be told to do.
@@ -17,7 +17,7 @@ pub enum Command {
 
 /// The words behind this one, which is to stand at a place.
 fn behind<'a>(words: &'a [&'a str], place: usize, word: &str) -> Result<&'a [&'a str], usize>
-    ensures { Gives (λ left. map (λ w. w.now) left.now) result (behind word.now place (map (λ w. w.now) words.now)) }
+    ensures { Yields (λ left. map (λ w. w.now) left.now) result (behind word.now place (map (λ w. w.now) words.now)) }
 {
     match words {
         [first, rest @ ..] => { if *first == word { Ok(rest) } else { Err(place) } }
