@@ -1,5 +1,5 @@
-//! What the drivers of `cases/` share: the words of a line, bytes in hexadecimal digits, and how an answer is told. It is
-//! for the cases and the benches, and promises nothing but that it ends and is safe.
+//! What the drivers of `cases/` share: the words of a line, bytes in hexadecimal digits, and how an answer is told.
+//! It is for the cases and the benches, and promises nothing but that it ends and is safe.
 #![tactic(auto)]
 
 mod asking;

@@ -1,12 +1,12 @@
 //! The tables that lines speak of.
 
+use crate::base_calls;
 use crate::kept_calls::KeptTable;
 use crate::log_calls::{Journal, answer_judge};
 use crate::node_calls::{NodeTable, answer_class};
 use crate::queue_calls::QueueTable;
 use crate::session_calls::SessionTable;
 use crate::source_calls::SourceTable;
-use crate::base_calls;
 use rows::{Driver, Stop};
 use std::alloc::Global;
 

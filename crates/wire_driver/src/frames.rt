@@ -162,8 +162,8 @@ fn put_after(
     put_rest(alloc, framer, to)
 }
 
-/// The frames of bytes that come in two parts, each in pieces of so many; what is left; and, where there is a fault, it, and what
-/// is said of it when more is fed.
+/// The frames of bytes that come in two parts, each in pieces of so many; what is left; and, where there is a fault,
+/// it, and what is said of it when more is fed.
 pub(crate) fn tell_frames(
     alloc: Global,
     cut: usize,

@@ -193,8 +193,8 @@ pub(crate) fn parts_of(alloc: Global, word: &str) -> Result<Vec<&str>, Stop> {
     Ok(parts)
 }
 
-/// Answers `take`: does the steps with an assembler of this channel and token; the first frame stands at byte 100, each one
-/// a byte further.
+/// Answers `take`: does the steps with an assembler of this channel and token; the first frame stands at byte 100,
+/// each one a byte further.
 pub(crate) fn answer_steps(alloc: Global, words: &[&str], to: &mut String) -> Result<(), Stop> {
     let [channel, token, steps @ ..] = words else {
         return Err(Stop::BadLine);
@@ -287,9 +287,9 @@ impl Channel {
     }
 }
 
-/// The messages of a stream that comes in pieces of so many bytes: of HEL, ACK and ERR the body, of an OPN the channel,
-/// number, request and body, of a MSG or CLO the request and body, where a message ends. Each OPN after the first renews
-/// the token by one.
+/// The messages of a stream that comes in pieces of so many bytes: of HEL, ACK and ERR the body, of an OPN the
+/// channel, number, request and body, of a MSG or CLO the request and body, where a message ends. Each OPN after the
+/// first renews the token by one.
 fn tell_stream(
     alloc: Global,
     channel: &mut Channel,

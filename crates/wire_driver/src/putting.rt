@@ -177,8 +177,8 @@ fn put_passed(
     }
 }
 
-/// Puts the body as a MSG in frames of this size, takes the bytes in pieces of so many, and says how many messages had this
-/// body.
+/// Puts the body as a MSG in frames of this size, takes the bytes in pieces of so many, and says how many messages
+/// had this body.
 fn tell_passed(
     alloc: Global,
     size: u32,
