@@ -1,6 +1,6 @@
-//! Reads lines from standard input and answers each before it reads the next: what the messages' bodies, and what they are
-//! put together from, are made of bytes, and bytes of them.
-//! It is for the cases and the benches, and promises nothing. The rows of `cases/` show the lines.
+//! Reads lines from standard input and answers each before it reads the next: what the messages' bodies, and what
+//! they are put together from, are made of bytes, and bytes of them. It is for the cases and the benches, and
+//! promises nothing. The rows of `cases/` show the lines.
 #![tactic(auto)]
 
 mod bodies;

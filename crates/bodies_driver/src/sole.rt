@@ -26,7 +26,13 @@ impl Body for Sole {
 
     type Service = Only;
 
-    ghost family = { record { all = record {} ∷ []; id = λ k. 628; cases = λ k. case a_read_value_id (λ v. record { value = v }); known = λ k. refl; small = λ k. ltb-true 628 (2 ^ 32) refl } };
+    ghost family = { record {
+      all = record {} ∷ [];
+      id = λ k. 628;
+      cases = λ k. case a_read_value_id (λ v. record { value = v });
+      known = λ k. refl;
+      small = λ k. ltb-true 628 (2 ^ 32) refl;
+    } };
 
     ghost number = { λ r. 628 };
 

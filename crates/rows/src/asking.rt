@@ -69,8 +69,8 @@ fn copy_often(alloc: Global, count: u32, bytes: &[u8], to: &mut String) -> Resul
     put_number(alloc, to, size as u64)
 }
 
-/// Answers a line that asks of bytes, and maybe again and again: `VERB NAME DIGITS..`, `repeat COUNT VERB NAME DIGITS..`,
-/// or `repeat COUNT copied DIGITS..`, which says how many bytes were copied.
+/// Answers a line that asks of bytes, and maybe again and again: `VERB NAME DIGITS..`, `repeat COUNT VERB NAME
+/// DIGITS..`, or `repeat COUNT copied DIGITS..`, which says how many bytes were copied.
 pub fn answer_asked<T: Types>(alloc: Global, words: &[&str], to: &mut String) -> Result<(), Stop> {
     match words {
         ["repeat", count, "copied", digits @ ..] => {

@@ -45,6 +45,13 @@ pub fn put_place(alloc: Global, place: u64, code: u32, to: &mut String) -> Resul
 /// A byte that stands before what is written.
 pub const BEFORE: u8 = 0x55;
 
+/// A list in which that byte stands.
+pub fn begun(alloc: Global) -> Result<Vec<u8>, Stop> {
+    let mut bytes = Vec::new(alloc);
+    bytes.push(BEFORE)?;
+    Ok(bytes)
+}
+
 /// Appends what was written behind that byte.
 pub fn put_behind(alloc: Global, written: &[u8], to: &mut String) -> Result<(), Stop> {
     match written.split_first() {
@@ -60,8 +67,7 @@ fn put_again<K: Kind>(
     read: &[u8],
     to: &mut String,
 ) -> Result<(), Stop> {
-    let mut written = Vec::new(alloc);
-    written.push(BEFORE)?;
+    let mut written = begun(alloc)?;
     K::write(alloc, value, &mut written)?;
     if written.strip_prefix(&[BEFORE]) == Some(read) {
         put(to, " same")

@@ -101,18 +101,16 @@ impl SessionTable {
         }
     }
 
-    /// The table of the next life.
-    fn begin(&mut self, alloc: Global, boot: u16) -> Result<(), Stop> {
-        self.boot = boot;
+    /// The table of the next life of the server.
+    fn begin(&mut self, alloc: Global, boot: u16) {
         self.sessions = Sessions::new(alloc, boot);
-        Ok(())
+        self.boot = boot;
     }
 
     /// The table of a life that gave so many sessions before.
-    fn go_on(&mut self, alloc: Global, boot: u16, last: u32) -> Result<(), Stop> {
+    fn go_on(&mut self, alloc: Global, boot: u16, last: u32) {
         self.boot = boot;
         self.sessions = Sessions::after(alloc, boot, last);
-        Ok(())
     }
 
     /// The token of a session of this life.
@@ -220,41 +218,27 @@ impl SessionTable {
         }
     }
 
-    fn unbind(&mut self, conn: u32) -> Result<(), Stop> {
-        self.sessions.unbind(conn);
-        Ok(())
-    }
-
-    fn close(&mut self, session: u32) -> Result<(), Stop> {
-        self.sessions.close(session);
-        Ok(())
-    }
-
-    fn expire(&mut self, now: u64) -> Result<(), Stop> {
-        self.sessions.expire(now);
-        Ok(())
-    }
-
-    fn disown(&mut self, id: u32) -> Result<(), Stop> {
-        self.sessions.disown(id);
-        Ok(())
-    }
-
-    /// Makes a call that answers nothing.
-    fn make(&mut self, alloc: Global, words: &[&str]) -> Result<(), Stop> {
+    /// Makes a call that answers nothing, or answers one that only asks.
+    fn make(&mut self, alloc: Global, words: &[&str], to: &mut String) -> Result<(), Stop> {
         match words {
             ["new", boot] => self.begin(alloc, number(boot)?),
             ["after", boot, last] => self.go_on(alloc, number(boot)?, number(last)?),
-            ["unbind", conn] => self.unbind(number(conn)?),
-            ["close", session] => self.close(number(session)?),
-            ["expire", now] => self.expire(number(now)?),
-            ["disown", id] => self.disown(number(id)?),
-            _ => Err(Stop::BadLine),
+            ["unbind", conn] => self.sessions.unbind(number(conn)?),
+            ["close", session] => self.sessions.close(number(session)?),
+            ["expire", now] => self.sessions.expire(number(now)?),
+            ["disown", id] => self.sessions.disown(number(id)?),
+            _ => return self.ask(alloc, words, to),
         }
+        put(to, "done")
     }
 
-    /// Answers a call on a session or a subscription.
-    fn change(&mut self, alloc: Global, words: &[&str], to: &mut String) -> Result<(), Stop> {
+    /// Answers a call of these words.
+    pub(crate) fn answer(
+        &mut self,
+        alloc: Global,
+        words: &[&str],
+        to: &mut String,
+    ) -> Result<(), Stop> {
         match words {
             ["create", conn, timeout, now, uri] => {
                 self.create(alloc, [conn, timeout, now, uri], to)
@@ -271,26 +255,7 @@ impl SessionTable {
                 let token = self.token(alloc, number(counter)?)?;
                 self.put_request(alloc, [request, conn, now], &token, to)
             }
-            _ => Err(Stop::BadLine),
-        }
-    }
-
-    /// Answers a call of these words.
-    pub(crate) fn answer(
-        &mut self,
-        alloc: Global,
-        words: &[&str],
-        to: &mut String,
-    ) -> Result<(), Stop> {
-        match words {
-            ["due"] | ["token", _, _] | ["keeps" | "owner" | "lives" | "waits" | "conn", _] => {
-                self.ask(alloc, words, to)
-            }
-            ["new" | "unbind" | "close" | "expire" | "disown", _] | ["after", _, _] => {
-                self.make(alloc, words)?;
-                put(to, "done")
-            }
-            _ => self.change(alloc, words, to),
+            _ => self.make(alloc, words, to),
         }
     }
 }

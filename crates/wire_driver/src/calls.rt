@@ -3,7 +3,7 @@
 ghost use Rattle.std.specs.Prelude.{◌≤◌, length, IfSome};
 
 use crate::greetings::MOST_URL;
-use rows::{BEFORE, Stop, bytes_of, number, put, put_bar, put_behind, put_bytes};
+use rows::{Stop, begun, bytes_of, number, put, put_bar, put_behind, put_bytes};
 use std::alloc::Global;
 use ua_chunks::{
     Greeting, Kind, ack_body, err_body, hello_body, write_ack, write_err, write_frame, write_hello,
@@ -51,13 +51,6 @@ fn answer_equal(alloc: Global, name: &str, words: [&str; 2], to: &mut String) ->
 
 // ---- frames
 
-/// A list in which a byte stands.
-fn begun(alloc: Global) -> Result<Vec<u8>, Stop> {
-    let mut bytes = Vec::new(alloc);
-    bytes.push(BEFORE)?;
-    Ok(bytes)
-}
-
 /// The frame of a kind with this body, behind the byte of `begun`.
 fn framed(alloc: Global, kind: Kind, body: &[u8]) -> Result<Vec<u8>, Stop> {
     if body.len() > MOST_BODY {
@@ -68,7 +61,8 @@ fn framed(alloc: Global, kind: Kind, body: &[u8]) -> Result<Vec<u8>, Stop> {
     Ok(bytes)
 }
 
-fn kind_of(word: &str) -> Result<Kind, Stop> {
+/// The kind of a frame.
+pub(crate) fn kind_of(word: &str) -> Result<Kind, Stop> {
     match word {
         "HEL" => Ok(Kind::Hel),
         "ACK" => Ok(Kind::Ack),

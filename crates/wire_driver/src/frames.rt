@@ -130,7 +130,11 @@ fn put_rest(alloc: Global, framer: &Framer, to: &mut String) -> Result<(), Stop>
 }
 
 /// Appends the fault, where there is one.
-fn put_answer(alloc: Global, answer: Result<(), FrameFault>, to: &mut String) -> Result<(), Stop> {
+pub(crate) fn put_answer(
+    alloc: Global,
+    answer: Result<(), FrameFault>,
+    to: &mut String,
+) -> Result<(), Stop> {
     match answer {
         Ok(()) => Ok(()),
         Err(fault) => {
@@ -158,8 +162,8 @@ fn put_after(
     put_rest(alloc, framer, to)
 }
 
-/// The frames of bytes that come in two parts, each in pieces of so many; what is left; and, where there is a fault, it, and what
-/// is said of it when more is fed.
+/// The frames of bytes that come in two parts, each in pieces of so many; what is left; and, where there is a fault,
+/// it, and what is said of it when more is fed.
 pub(crate) fn tell_frames(
     alloc: Global,
     cut: usize,

@@ -2,7 +2,7 @@
 
 ghost use Rattle.std.specs.Prelude.{◌<◌};
 
-use crate::frames::{feed, put_frame_fault};
+use crate::frames::{feed, put_answer, put_frame_fault};
 use rows::{Stop, bytes_of, number, positive, put, put_bar, put_bytes};
 use std::alloc::Global;
 use ua_chunks::{
@@ -193,8 +193,8 @@ pub(crate) fn parts_of(alloc: Global, word: &str) -> Result<Vec<&str>, Stop> {
     Ok(parts)
 }
 
-/// Answers `take`: does the steps with an assembler of this channel and token; the first frame stands at byte 100, each one
-/// a byte further.
+/// Answers `take`: does the steps with an assembler of this channel and token; the first frame stands at byte 100,
+/// each one a byte further.
 pub(crate) fn answer_steps(alloc: Global, words: &[&str], to: &mut String) -> Result<(), Stop> {
     let [channel, token, steps @ ..] = words else {
         return Err(Stop::BadLine);
@@ -287,19 +287,9 @@ impl Channel {
     }
 }
 
-fn put_end(alloc: Global, answer: Result<(), FrameFault>, to: &mut String) -> Result<(), Stop> {
-    match answer {
-        Ok(()) => Ok(()),
-        Err(fault) => {
-            put_bar(to)?;
-            put_frame_fault(alloc, fault, to)
-        }
-    }
-}
-
-/// The messages of a stream that comes in pieces of so many bytes: of HEL, ACK and ERR the body, of an OPN the channel,
-/// number, request and body, of a MSG or CLO the request and body, where a message ends. Each OPN after the first renews
-/// the token by one.
+/// The messages of a stream that comes in pieces of so many bytes: of HEL, ACK and ERR the body, of an OPN the
+/// channel, number, request and body, of a MSG or CLO the request and body, where a message ends. Each OPN after the
+/// first renews the token by one.
 fn tell_stream(
     alloc: Global,
     channel: &mut Channel,
@@ -313,7 +303,7 @@ fn tell_stream(
     let mut frames = Vec::new(alloc);
     let answer = feed(alloc, &mut framer, cut, bytes, &mut frames);
     channel.add_all(alloc, &frames, to)?;
-    put_end(alloc, answer, to)
+    put_answer(alloc, answer, to)
 }
 
 /// Answers `stream`.

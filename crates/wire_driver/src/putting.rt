@@ -2,21 +2,12 @@
 
 ghost use Rattle.std.specs.Prelude.{◌<◌};
 
+use crate::calls::kind_of;
 use crate::frames::{feed, put_frame_fault};
 use crate::messages::parts_of;
-use rows::{BEFORE, Stop, bytes_of, number, positive, put, put_bar, put_bytes};
+use rows::{BEFORE, Stop, begun, bytes_of, number, positive, put, put_bar, put_bytes};
 use std::alloc::Global;
 use ua_chunks::{Assembler, FrameFault, Framer, Kind, Message, PutFault, Sender};
-
-/// The kind of a message.
-fn kind_of(word: &str) -> Result<Kind, Stop> {
-    match word {
-        "MSG" => Ok(Kind::Msg),
-        "OPN" => Ok(Kind::Opn),
-        "CLO" => Ok(Kind::Clo),
-        _ => Err(Stop::BadLine),
-    }
-}
 
 /// Appends what a sender answered: the bytes that were put, or the size and the limit.
 fn put_sent(
@@ -66,8 +57,7 @@ fn put_message(
     body: &[u8],
     to: &mut String,
 ) -> Result<(), Stop> {
-    let mut bytes = Vec::new(alloc);
-    bytes.push(BEFORE)?;
+    let mut bytes = begun(alloc)?;
     let answer = put_kind(alloc, sender, kind, request, body, &mut bytes)?;
     put_sent(alloc, answer, &bytes, to)
 }
@@ -187,8 +177,8 @@ fn put_passed(
     }
 }
 
-/// Puts the body as a MSG in frames of this size, takes the bytes in pieces of so many, and says how many messages had this
-/// body.
+/// Puts the body as a MSG in frames of this size, takes the bytes in pieces of so many, and says how many messages
+/// had this body.
 fn tell_passed(
     alloc: Global,
     size: u32,
