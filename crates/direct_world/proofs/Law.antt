@@ -92,11 +92,7 @@ line_goes (line.Feed server count) w = goes_same _ _ (feed_source server count w
 line_goes (line.Take server count) w = goes_same _ _ (take_source server count w)
 line_goes (line.Stop server) w = goes_same _ _ (stop_source server w)
 line_goes (line.Start server) w = goes_same _ _ (start_source server w)
-line_goes (line.Set mode servers) w = goes_nowhere w.source
-line_goes (line.Items items queue oldest) w = goes_nowhere w.source
-line_goes (line.Listen item) w = goes_nowhere w.source
-line_goes (line.Unlisten id) w = goes_nowhere w.source
-line_goes line.End w = goes_nowhere w.source
+line_goes _ w = goes_nowhere w.source
 
 -- the source only goes on
 pub lines_go : (ls : List Line) (w : WorldState) → GoesOn w.source (after_all ls w).source
@@ -125,11 +121,7 @@ line_is_source (line.Feed server count) w h = same_source _ _ (feed_source serve
 line_is_source (line.Take server count) w h = same_source _ _ (take_source server count w) h
 line_is_source (line.Stop server) w h = same_source _ _ (stop_source server w) h
 line_is_source (line.Start server) w h = same_source _ _ (start_source server w) h
-line_is_source (line.Set mode servers) w h = h
-line_is_source (line.Items items queue oldest) w h = h
-line_is_source (line.Listen item) w h = h
-line_is_source (line.Unlisten id) w h = h
-line_is_source line.End w h = h
+line_is_source _ w h = h
 
 lines_are_source : (ls : List Line) (w : WorldState) → IsSource w.source → IsSource (after_all ls w).source
 lines_are_source [] w h = h
@@ -280,11 +272,7 @@ step source n m (line.Stop server) w history goes h = step_at source n m stopped
     (λ p under. step_stop source n m p w history under h) h
 step source n m (line.Start server) w history goes h = step_at source n m started_at w history server _ refl
     (λ p under. step_start source n m p (p + 1) w history goes under (omega arith) h) h
-step source n m (line.Set mode servers) w history goes h = h
-step source n m (line.Items items queue oldest) w history goes h = h
-step source n m (line.Listen item) w history goes h = h
-step source n m (line.Unlisten id) w history goes h = h
-step source n m line.End w history goes h = h
+step source n m _ w history goes h = h
 
 steps : (source : List Change) (n m : ℕ) (ls : List Line) (w : WorldState) (history : List Act) → source ≡ (after_all ls w).source
     → WorldFed source n m w history → WorldFed source n m (after_all ls w) (with_lines ls w history)
@@ -364,11 +352,7 @@ line_adds (line.Feed server count) ls w h few = feed_source server count w ∙ s
 line_adds (line.Take server count) ls w h few = take_source server count w ∙ sym (append-nil w.source)
 line_adds (line.Stop server) ls w h few = stop_source server w ∙ sym (append-nil w.source)
 line_adds (line.Start server) ls w h few = start_source server w ∙ sym (append-nil w.source)
-line_adds (line.Set mode servers) ls w h few = sym (append-nil w.source)
-line_adds (line.Items items queue oldest) ls w h few = sym (append-nil w.source)
-line_adds (line.Listen item) ls w h few = sym (append-nil w.source)
-line_adds (line.Unlisten id) ls w h few = sym (append-nil w.source)
-line_adds line.End ls w h few = sym (append-nil w.source)
+line_adds _ ls w h few = sym (append-nil w.source)
 
 lines_add : (ls : List Line) (w : WorldState) → IsSource (w.source ++ changes_in ls) → length (w.source ++ changes_in ls) ≤ 200000
     → (after_all ls w).source ≡ w.source ++ changes_in ls

@@ -98,11 +98,7 @@ line_lives source items place (line.Stop server) w lives goes h = at_server sour
     (λ p under. stop_at source items place p w lives under h) h
 line_lives source items place (line.Start server) w lives goes h = at_server source items place started_at w lives server _ refl
     (λ p under. start_at source items place p w lives goes under h) h
-line_lives source items place (line.Set mode servers) w lives goes h = h
-line_lives source items place (line.Items count queue oldest) w lives goes h = h
-line_lives source items place (line.Listen item) w lives goes h = h
-line_lives source items place (line.Unlisten id) w lives goes h = h
-line_lives source items place line.End w lives goes h = h
+line_lives source items place _ w lives goes h = h
 
 lines_lives : (source : List Change) (items place : ℕ) (ls : List Line) (w : WorldState) (lives : List Life) → source ≡ (after_all ls w).source
     → Lives source w.source items (server_at place w.servers) lives
@@ -205,11 +201,7 @@ line_count (line.Take server count) w place lives under = none_begun (place + 1)
     (λ p. taken_if_count (server_at p w.servers).running (place + 1) p count (server_at p w.servers) w lives)
 line_count (line.Stop server) w place lives under = none_begun (place + 1) stopped_at w lives (place_in server (length w.servers)) (λ p. refl)
 line_count (line.Start server) w place lives under = start_count server place w lives _ refl under
-line_count (line.Set mode servers) w place lives under = omega arith
-line_count (line.Items items queue oldest) w place lives under = omega arith
-line_count (line.Listen item) w place lives under = omega arith
-line_count (line.Unlisten id) w place lives under = omega arith
-line_count line.End w place lives under = omega arith
+line_count _ w place lives under = omega arith
 
 servers_at : (at : Option ℕ) (act : ℕ → WorldState → Step) (w : WorldState) → ((p : ℕ) → length (act p w).servers ≡ length w.servers)
     → length (at_place at act w).servers ≡ length w.servers
@@ -233,11 +225,7 @@ line_servers (line.Take server count) w = servers_at (place_in server (length w.
     (λ p. taken_servers (server_at p w.servers).running p count (server_at p w.servers) w)
 line_servers (line.Stop server) w = servers_at (place_in server (length w.servers)) stopped_at w (λ p. length-set w.servers p _)
 line_servers (line.Start server) w = servers_at (place_in server (length w.servers)) started_at w (λ p. length-set w.servers p _)
-line_servers (line.Set mode servers) w = refl
-line_servers (line.Items items queue oldest) w = refl
-line_servers (line.Listen item) w = refl
-line_servers (line.Unlisten id) w = refl
-line_servers line.End w = refl
+line_servers _ w = refl
 
 -- how many of the lines start a server
 abbrev starts_in : ℕ → List Line → ℕ

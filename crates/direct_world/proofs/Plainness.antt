@@ -101,11 +101,7 @@ line_plain (line.Take server count) w = at_plain (place_in server (length w.serv
     (λ p. taken_plain (server_at p w.servers).running p count (server_at p w.servers) w)
 line_plain (line.Stop server) w = at_plain (place_in server (length w.servers)) stopped_at w (λ p. tt)
 line_plain (line.Start server) w = at_plain (place_in server (length w.servers)) started_at w (λ p. (tt, tt))
-line_plain (line.Set mode servers) w = tt
-line_plain (line.Items items queue oldest) w = tt
-line_plain (line.Listen item) w = tt
-line_plain (line.Unlisten id) w = tt
-line_plain line.End w = tt
+line_plain _ w = tt
 
 with_plain : (acts history : List Act) → ArePlainActs acts → ArePlainActs history → ArePlainActs (with_acts acts history)
 with_plain [] history h k = k

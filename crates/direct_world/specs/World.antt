@@ -80,18 +80,14 @@ at_place (Some place) act w = act place w
 abbrev pub at_server : ℕ → (ℕ → WorldState → Step) → WorldState → Step
 at_server number act w = at_place (place_in number (length w.servers)) act w
 
--- the step of a line
+-- the step of a line; one that says nothing of direct servers changes nothing
 abbrev pub step_of : Line → WorldState → Step
 step_of (line.Change change) w = record (rest w) { source = appended change w.source }
 step_of (line.Feed server count) w = at_server server (fed_at count) w
 step_of (line.Take server count) w = at_server server (taken_at count) w
 step_of (line.Stop server) w = at_server server stopped_at w
 step_of (line.Start server) w = at_server server started_at w
-step_of (line.Set mode servers) w = rest w
-step_of (line.Items items queue oldest) w = rest w
-step_of (line.Listen item) w = rest w
-step_of (line.Unlisten id) w = rest w
-step_of line.End w = rest w
+step_of _ w = rest w
 
 -- the world after a step: the log is what the acts make of it
 abbrev pub after_step : Step → WorldState → WorldState

@@ -167,11 +167,7 @@ impl World {
                 }
                 Ok(())
             }
-            Line::Set { .. }
-            | Line::Items { .. }
-            | Line::Listen { .. }
-            | Line::Unlisten { .. }
-            | Line::End => Ok(()),
+            _ => Ok(()),
         }
     }
 

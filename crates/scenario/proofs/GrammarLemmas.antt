@@ -1,6 +1,6 @@
 -- A text has a form exactly where it is the form's spelling.
 use Rattle.std.proofs.Common.{◌≡◌, ◌==◌, ℕ, ◌≤◌, ◌⊎◌, inl, inr, suc, ℤ, pos, negsuc, List, [], ◌∷◌, ◌++◌, Bool, true, false, cond, Option, Some, None, refl, sym, ◌∙◌, ap, subst, arith, rules}
-use Rattle.std.specs.Prelude.{codes, nat_le}
+use Rattle.std.specs.Prelude.{codes, find, nat_le}
 use Rattle.std.specs.Str.{bytes_eq}
 use Rattle.std.proofs.lemmas.Bool.Decides.{nat_tests}
 use Rattle.std.proofs.lemmas.Slice.Eq.{bytes_eq-Decides}
@@ -9,10 +9,15 @@ use Rattle.ua_base.specs.declared.modes.SetMode.{SetMode}
 use Rattle.ua_base.specs.declared.modes.SetMode.TheVariants.{Direct, Hot, Warm, Cold}
 use Rattle.scenario.specs.declared.form.Form.{Form}
 use Rattle.scenario.specs.declared.form.Form.TheVariants as form
+use Rattle.scenario.specs.declared.table.Name.{Name}
+use Rattle.scenario.specs.declared.table.Numbers.{Numbers}
+use Rattle.scenario.specs.declared.table.Numbers.TheVariants as numbers
+use Rattle.scenario.specs.Table.{word_of, names, name_of}
 use Rattle.scenario.specs.Texts.{mode_text}
 use Rattle.scenario.specs.Words.{◌>>=◌, with_first, words_of, spaced, spaced_after, dotted, numeral, stamp_numeral, signed_numeral, number_by, pico_by, stamp_by, integer_by}
-use Rattle.scenario.specs.Grammar.{form_words, form_text, word_at, none_left, name_at, number_at, stamp_at, integer_at, mode_of, mode_at, one_number, rule_at, rule_words, two_numbers, set_form, items_form, change_form, form_after, form_by, form_of}
+use Rattle.scenario.specs.Grammar.{form_words, form_text, number_words, word_at, none_left, name_at, number_at, numbers_after, numbers_at, stamp_at, integer_at, mode_of, mode_at, one_number, rule_at, rule_words, plain_form, set_form, items_form, change_form, form_after, form_by, form_of}
 use Rattle.scenario.proofs.WordLemmas.{dot_step, words_some}
+use Rattle.scenario.proofs.TableLemmas.{Solid, is_word}
 use Rattle.scenario.proofs.NumeralLemmas.{plain, AreDigits, numeral_digits, number_by-numeral, numeral-number_by, integer_by-numeral, numeral-integer_by}
 
 -- words joined again
@@ -34,11 +39,6 @@ spaced_case b rest false e h = spaced-first b (words_of rest) ∙ ap (λ t. b �
 pub spaced-words_of : (text : List ℕ) → spaced (words_of text) ≡ text
 spaced-words_of [] = refl
 spaced-words_of (b ∷ rest) = spaced_case b rest (b == 32) refl (spaced-words_of rest)
-
--- no byte of a word is below 45: no space and no line feed stands in it
-abbrev pub Solid : List ℕ → Type 0
-Solid [] = Unit {0}
-Solid (b ∷ rest) = (nat_le 45 b ≡ true) × Solid rest
 
 abbrev pub AllSolid : List (List ℕ) → Type 0
 AllSolid [] = Unit {0}
@@ -94,54 +94,35 @@ mode_solid Hot = search rules
 mode_solid Warm = search rules
 mode_solid Cold = search rules
 
+numbers_solid : (said : Numbers) → AllSolid (number_words said)
+numbers_solid numbers.Nothing = tt
+numbers_solid (numbers.One first) = (numeral_solid first, tt)
+numbers_solid (numbers.Two first second) = (numeral_solid first, (numeral_solid second, tt))
+
 -- the words of a form: a keyword, and what follows it
 abbrev pub keyword_of : Form → List ℕ
 keyword_of (form.Set mode servers) = codes "set"
 keyword_of (form.Items items queue oldest) = codes "items"
 keyword_of (form.Change item time pico value) = codes "change"
-keyword_of (form.Feed server count) = codes "feed"
-keyword_of (form.Take server count) = codes "take"
-keyword_of (form.Stop server) = codes "stop"
-keyword_of (form.Start server) = codes "start"
-keyword_of (form.Listen item) = codes "listen"
-keyword_of (form.Unlisten id) = codes "unlisten"
-keyword_of form.End = codes "end"
+keyword_of (form.Plain name said) = word_of name
 
 abbrev pub words_after : Form → List (List ℕ)
 words_after (form.Set mode servers) = mode_text mode ∷ numeral servers ∷ []
 words_after (form.Items items queue oldest) = numeral items ∷ codes "queue" ∷ numeral queue ∷ rule_words oldest
 words_after (form.Change item time pico value) = numeral item ∷ stamp_numeral time pico ∷ signed_numeral value ∷ []
-words_after (form.Feed server count) = numeral server ∷ numeral count ∷ []
-words_after (form.Take server count) = numeral server ∷ numeral count ∷ []
-words_after (form.Stop server) = numeral server ∷ []
-words_after (form.Start server) = numeral server ∷ []
-words_after (form.Listen item) = numeral item ∷ []
-words_after (form.Unlisten id) = numeral id ∷ []
-words_after form.End = []
+words_after (form.Plain name said) = number_words said
 
 words_are : (f : Form) → form_words f ≡ keyword_of f ∷ words_after f
 words_are (form.Set mode servers) = refl
 words_are (form.Items items queue oldest) = refl
 words_are (form.Change item time pico value) = refl
-words_are (form.Feed server count) = refl
-words_are (form.Take server count) = refl
-words_are (form.Stop server) = refl
-words_are (form.Start server) = refl
-words_are (form.Listen item) = refl
-words_are (form.Unlisten id) = refl
-words_are form.End = refl
+words_are (form.Plain name said) = refl
 
 no_spaces : (f : Form) → AllSolid (keyword_of f ∷ words_after f)
 no_spaces (form.Set mode servers) = (search rules, (mode_solid mode, (numeral_solid servers, tt)))
 no_spaces (form.Items items queue oldest) = (search rules, (numeral_solid items, (search rules, (numeral_solid queue, rule_solid oldest))))
 no_spaces (form.Change item time pico value) = (search rules, (numeral_solid item, (stamp_solid time pico, (signed_solid value, tt))))
-no_spaces (form.Feed server count) = (search rules, (numeral_solid server, (numeral_solid count, tt)))
-no_spaces (form.Take server count) = (search rules, (numeral_solid server, (numeral_solid count, tt)))
-no_spaces (form.Stop server) = (search rules, (numeral_solid server, tt))
-no_spaces (form.Start server) = (search rules, (numeral_solid server, tt))
-no_spaces (form.Listen item) = (search rules, (numeral_solid item, tt))
-no_spaces (form.Unlisten id) = (search rules, (numeral_solid id, tt))
-no_spaces form.End = (search rules, tt)
+no_spaces (form.Plain name said) = ((is_word name).solid, numbers_solid said)
 
 -- each piece, as it is spelled, is read
 number_spelled : (n : ℕ) (ws : List (List ℕ)) → number_at plain (numeral n ∷ ws) ≡ Some (n, ws)
@@ -197,10 +178,21 @@ mode_spelled Cold ws = refl
 one_spelled : (n : ℕ) → one_number plain (numeral n ∷ []) ≡ Some n
 one_spelled n = ap (λ o. o >>= λ first. none_left first.1 >>= λ _. Some first.0) (number_spelled n [])
 
-two_spelled : (m n : ℕ) → two_numbers plain (numeral m ∷ numeral n ∷ []) ≡ Some (m, n)
-two_spelled m n =
-    ap (λ o. o >>= λ first. one_number plain first.1 >>= λ second. Some (first.0, second)) (number_spelled m (numeral n ∷ []))
-    ∙ ap (λ o. o >>= λ second. Some (m, second)) (one_spelled n)
+numbers_spelled : (said : Numbers) → numbers_at plain (number_words said) ≡ Some said
+numbers_spelled numbers.Nothing = refl
+numbers_spelled (numbers.One first) = ap (λ o. o >>= λ x. numbers_after plain x.0 x.1) (number_spelled first [])
+numbers_spelled (numbers.Two first second) =
+    ap (λ o. o >>= λ x. numbers_after plain x.0 x.1) (number_spelled first (numeral second ∷ []))
+    ∙ ap (λ o. o >>= λ n. Some (numbers.Two first n)) (one_spelled second)
+
+-- a word of the table is none of the first three keywords
+plain_after : (name : Name) (ws : List (List ℕ)) → form_after plain (word_of name) ws ≡ plain_form plain (word_of name) ws
+plain_after name ws =
+    let w = is_word name in
+    let rest = plain_form plain (word_of name) ws in
+    ap (λ b. cond b (set_form plain ws) (cond (bytes_eq (word_of name) (codes "items")) (items_form plain ws) (cond (bytes_eq (word_of name) (codes "change")) (change_form plain ws) rest))) w.no_set
+    ∙ ap (λ b. cond b (items_form plain ws) (cond (bytes_eq (word_of name) (codes "change")) (change_form plain ws) rest)) w.no_items
+    ∙ ap (λ b. cond b (change_form plain ws) rest) w.no_change
 
 after_spelled : (f : Form) → form_after plain (keyword_of f) (words_after f) ≡ Some f
 after_spelled (form.Set mode servers) =
@@ -216,13 +208,10 @@ after_spelled (form.Change item time pico value) =
     (number_spelled item (stamp_numeral time pico ∷ signed_numeral value ∷ []))
     ∙ ap (λ o. o >>= λ t. integer_at plain t.1 >>= λ v. none_left v.1 >>= λ _. Some (form.Change item t.0.0 t.0.1 v.0)) (stamp_at_spelled time pico (signed_numeral value ∷ []))
     ∙ ap (λ o. o >>= λ v. none_left v.1 >>= λ _. Some (form.Change item time pico v.0)) (integer_spelled value [])
-after_spelled (form.Feed server count) = ap (λ o. o >>= λ n. Some (form.Feed n.0 n.1)) (two_spelled server count)
-after_spelled (form.Take server count) = ap (λ o. o >>= λ n. Some (form.Take n.0 n.1)) (two_spelled server count)
-after_spelled (form.Stop server) = ap (λ o. o >>= λ n. Some (form.Stop n)) (one_spelled server)
-after_spelled (form.Start server) = ap (λ o. o >>= λ n. Some (form.Start n)) (one_spelled server)
-after_spelled (form.Listen item) = ap (λ o. o >>= λ n. Some (form.Listen n)) (one_spelled item)
-after_spelled (form.Unlisten id) = ap (λ o. o >>= λ n. Some (form.Unlisten n)) (one_spelled id)
-after_spelled form.End = refl
+after_spelled (form.Plain name said) =
+    plain_after name (number_words said)
+    ∙ ap (λ o. o >>= λ n. numbers_at plain (number_words said) >>= λ m. Some (form.Plain n m)) (is_word name).found
+    ∙ ap (λ o. o >>= λ m. Some (form.Plain name m)) (numbers_spelled said)
 
 pub words_of-form_text : (f : Form) → words_of (form_text f) ≡ keyword_of f ∷ words_after f
 words_of-form_text f = ap (λ ws. words_of (spaced ws)) (words_are f) ∙ words_of-spaced (keyword_of f) (words_after f) (no_spaces f)
@@ -316,8 +305,8 @@ integer_got ws x h =
     let e : (b.0, a.0.1) ≡ x = cc in
     word_got ws a.0 a.1 ∙ ap (λ w. w ∷ a.0.1) (sym (numeral-integer_by a.0.0 b.0 b.1)) ∙ ap (λ p. signed_numeral p.0 ∷ p.1) e
 
-is_word : (word name : List ℕ) → bytes_eq word name ≡ true → word ≡ name
-is_word word name h = (bytes_eq-Decides word name).0 h
+same_word : (word name : List ℕ) → bytes_eq word name ≡ true → word ≡ name
+same_word word name h = (bytes_eq-Decides word name).0 h
 
 chosen : {A : Type 0} (b : Bool) (x y : Option A) (z : A) → cond b x y ≡ Some z → ((b ≡ true) × (x ≡ Some z)) ⊎ ((b ≡ false) × (y ≡ Some z))
 chosen true x y z h = inl (refl, h)
@@ -330,24 +319,17 @@ one_got ws n h =
     let e : a.0.0 ≡ n = cc in
     number_got ws a.0 a.1 ∙ ap (λ more. numeral a.0.0 ∷ more) (last_got a.0.1 b.0 b.1) ∙ ap (λ m. numeral m ∷ []) e
 
-two_got : (ws : List (List ℕ)) (p : ℕ × ℕ) → two_numbers plain ws ≡ Some p → ws ≡ numeral p.0 ∷ numeral p.1 ∷ []
-two_got ws p h =
-    let a = got (number_at plain ws) (λ first. one_number plain first.1 >>= λ second. Some (first.0, second)) p h in
-    let b = got (one_number plain a.0.1) (λ second. Some (a.0.0, second)) p a.2 in
-    let e : (a.0.0, b.0) ≡ p = cc in
-    number_got ws a.0 a.1 ∙ ap (λ more. numeral a.0.0 ∷ more) (one_got a.0.1 b.0 b.1) ∙ ap (λ q. numeral q.0 ∷ numeral q.1 ∷ []) e
-
 mode_word : (word : List ℕ) (m : SetMode) → mode_of word ≡ Some m → word ≡ mode_text m
 mode_word word m h =
     elim (chosen (bytes_eq word (codes "direct")) (Some Direct)
     (cond (bytes_eq word (codes "hot")) (Some Hot) (cond (bytes_eq word (codes "warm")) (Some Warm) (cond (bytes_eq word (codes "cold")) (Some Cold) None))) m h) [
-      | inl a ↦ is_word word _ a.0 ∙ said Direct m a.1
+      | inl a ↦ same_word word _ a.0 ∙ said Direct m a.1
       | inr a ↦ elim (chosen (bytes_eq word (codes "hot")) (Some Hot) (cond (bytes_eq word (codes "warm")) (Some Warm) (cond (bytes_eq word (codes "cold")) (Some Cold) None)) m a.1) [
-        | inl b ↦ is_word word _ b.0 ∙ said Hot m b.1
+        | inl b ↦ same_word word _ b.0 ∙ said Hot m b.1
         | inr b ↦ elim (chosen (bytes_eq word (codes "warm")) (Some Warm) (cond (bytes_eq word (codes "cold")) (Some Cold) None) m b.1) [
-          | inl c ↦ is_word word _ c.0 ∙ said Warm m c.1
+          | inl c ↦ same_word word _ c.0 ∙ said Warm m c.1
           | inr c ↦ elim (chosen (bytes_eq word (codes "cold")) (Some Cold) None m c.1) [
-            | inl d ↦ is_word word _ d.0 ∙ said Cold m d.1
+            | inl d ↦ same_word word _ d.0 ∙ said Cold m d.1
             | inr d ↦ absurd (none m d.1)
           ]
         ]
@@ -371,7 +353,7 @@ name_got : (name : List ℕ) (ws rest : List (List ℕ)) → name_at name ws ≡
 name_got name ws rest h =
     let a = got (word_at ws) (λ first. cond (bytes_eq first.0 name) (Some first.1) None) rest h in
     word_got ws a.0 a.1 ∙ elim (chosen (bytes_eq a.0.0 name) (Some a.0.1) None rest a.2) [
-      | inl b ↦ let e : a.0.1 ≡ rest = is_rest a.0.1 rest b.1 in ap (λ w. w ∷ a.0.1) (is_word a.0.0 _ b.0) ∙ ap (λ more. name ∷ more) e
+      | inl b ↦ let e : a.0.1 ≡ rest = is_rest a.0.1 rest b.1 in ap (λ w. w ∷ a.0.1) (same_word a.0.0 _ b.0) ∙ ap (λ more. name ∷ more) e
       | inr b ↦ absurd (none rest b.1)
     ]
   where
@@ -429,61 +411,47 @@ change_got ws f h =
     let e : form.Change a.0.0 b.0.0.0 b.0.0.1 c.0.0 ≡ f = cc in
     change_joined ws a.0.1 b.0.1 c.0.1 a.0.0 b.0.0.0 b.0.0.1 c.0.0 f (number_got ws a.0 a.1) (stamp_got a.0.1 b.0 b.1) (integer_got b.0.1 c.0 c.1) (last_got c.0.1 d.0 d.1) e
 
-two_form_got : (name : List ℕ) (g : ℕ → ℕ → Form) → ((m n : ℕ) → name ∷ (numeral m ∷ numeral n ∷ []) ≡ form_words (g m n))
-    → (ws : List (List ℕ)) (f : Form) → (two_numbers plain ws >>= λ n. Some (g n.0 n.1)) ≡ Some f → name ∷ ws ≡ form_words f
-two_form_got name g spelled ws f h =
-    let a = got (two_numbers plain ws) (λ n. Some (g n.0 n.1)) f h in
-    let e : g a.0.0 a.0.1 ≡ f = cc in
-    ap (λ more. name ∷ more) (two_got ws a.0 a.1) ∙ spelled a.0.0 a.0.1 ∙ ap form_words e
+numbers_after_got : (first : ℕ) (ws : List (List ℕ)) (said : Numbers) → numbers_after plain first ws ≡ Some said → numeral first ∷ ws ≡ number_words said
+numbers_after_got first [] said h = let e : numbers.One first ≡ said = cc in ap number_words e
+numbers_after_got first (w ∷ ws) said h =
+    let a = got (one_number plain (w ∷ ws)) (λ second. Some (numbers.Two first second)) said h in
+    let e : numbers.Two first a.0 ≡ said = cc in
+    ap (λ more. numeral first ∷ more) (one_got (w ∷ ws) a.0 a.1) ∙ ap number_words e
 
-one_form_got : (name : List ℕ) (g : ℕ → Form) → ((n : ℕ) → name ∷ (numeral n ∷ []) ≡ form_words (g n))
-    → (ws : List (List ℕ)) (f : Form) → (one_number plain ws >>= λ n. Some (g n)) ≡ Some f → name ∷ ws ≡ form_words f
-one_form_got name g spelled ws f h =
-    let a = got (one_number plain ws) (λ n. Some (g n)) f h in
-    let e : g a.0 ≡ f = cc in
-    ap (λ more. name ∷ more) (one_got ws a.0 a.1) ∙ spelled a.0 ∙ ap form_words e
+numbers_got : (ws : List (List ℕ)) (said : Numbers) → numbers_at plain ws ≡ Some said → ws ≡ number_words said
+numbers_got [] said h = let e : numbers.Nothing ≡ said = cc in ap number_words e
+numbers_got (w ∷ ws) said h =
+    let a = got (number_at plain (w ∷ ws)) (λ x. numbers_after plain x.0 x.1) said h in
+    number_got (w ∷ ws) a.0 a.1 ∙ numbers_after_got a.0.0 a.0.1 said a.2
 
-end_got : (ws : List (List ℕ)) (f : Form) → (none_left ws >>= λ _. Some form.End) ≡ Some f → codes "end" ∷ ws ≡ form_words f
-end_got ws f h =
-    let a = got (none_left ws) (λ _. Some form.End) f h in
-    let e : form.End ≡ f = cc in
-    ap (λ more. codes "end" ∷ more) (last_got ws a.0 a.1) ∙ ap form_words e
+-- a name that is found has this word
+found_case : (word : List ℕ) (n m : Name) (b : Bool) (rest : List Name) → bytes_eq (word_of n) word ≡ b → (find (λ other. bytes_eq (word_of other) word) rest ≡ Some m → word_of m ≡ word)
+    → cond b (Some n) (find (λ other. bytes_eq (word_of other) word) rest) ≡ Some m → word_of m ≡ word
+found_case word n m true rest e more h = let same : n ≡ m = cc in sym (ap word_of same) ∙ same_word (word_of n) word e
+found_case word n m false rest e more h = more h
+
+found_word : (word : List ℕ) (all : List Name) (m : Name) → find (λ other. bytes_eq (word_of other) word) all ≡ Some m → word_of m ≡ word
+found_word word [] m h = absurd cc
+found_word word (n ∷ rest) m h = found_case word n m (bytes_eq (word_of n) word) rest refl (found_word word rest m) h
+
+plain_got : (keyword : List ℕ) (ws : List (List ℕ)) (f : Form) → plain_form plain keyword ws ≡ Some f → keyword ∷ ws ≡ form_words f
+plain_got keyword ws f h =
+    let a = got (name_of keyword) (λ n. numbers_at plain ws >>= λ m. Some (form.Plain n m)) f h in
+    let b = got (numbers_at plain ws) (λ m. Some (form.Plain a.0 m)) f a.2 in
+    let e : form.Plain a.0 b.0 ≡ f = cc in
+    ap (λ w. w ∷ ws) (sym (found_word keyword names a.0 a.1)) ∙ ap (λ more. word_of a.0 ∷ more) (numbers_got ws b.0 b.1) ∙ ap form_words e
 
 -- one keyword of the order: it stands there, or another one does
 keyword_case : (keyword name : List ℕ) (ws : List (List ℕ)) (f : Form) (here others : Option Form) → (here ≡ Some f → name ∷ ws ≡ form_words f)
     → (others ≡ Some f → keyword ∷ ws ≡ form_words f) → cond (bytes_eq keyword name) here others ≡ Some f → keyword ∷ ws ≡ form_words f
 keyword_case keyword name ws f here others g k h =
     elim (chosen (bytes_eq keyword name) here others f h) [
-      | inl a ↦ ap (λ w. w ∷ ws) (is_word keyword name a.0) ∙ g a.1
+      | inl a ↦ ap (λ w. w ∷ ws) (same_word keyword name a.0) ∙ g a.1
       | inr b ↦ k b.1
     ]
 
-none_got : (keyword : List ℕ) (ws : List (List ℕ)) (f : Form) → ◌≡◌ {A = Option Form} None (Some f) → keyword ∷ ws ≡ form_words f
-none_got keyword ws f h = absurd cc
-
-abbrev from_end : List ℕ → List (List ℕ) → Option Form
-from_end keyword ws = cond (bytes_eq keyword (codes "end")) (none_left ws >>= λ _. Some form.End) (None)
-
-abbrev from_unlisten : List ℕ → List (List ℕ) → Option Form
-from_unlisten keyword ws = cond (bytes_eq keyword (codes "unlisten")) (one_number plain ws >>= λ n. Some (form.Unlisten n)) (from_end keyword ws)
-
-abbrev from_listen : List ℕ → List (List ℕ) → Option Form
-from_listen keyword ws = cond (bytes_eq keyword (codes "listen")) (one_number plain ws >>= λ n. Some (form.Listen n)) (from_unlisten keyword ws)
-
-abbrev from_start : List ℕ → List (List ℕ) → Option Form
-from_start keyword ws = cond (bytes_eq keyword (codes "start")) (one_number plain ws >>= λ n. Some (form.Start n)) (from_listen keyword ws)
-
-abbrev from_stop : List ℕ → List (List ℕ) → Option Form
-from_stop keyword ws = cond (bytes_eq keyword (codes "stop")) (one_number plain ws >>= λ n. Some (form.Stop n)) (from_start keyword ws)
-
-abbrev from_take : List ℕ → List (List ℕ) → Option Form
-from_take keyword ws = cond (bytes_eq keyword (codes "take")) (two_numbers plain ws >>= λ n. Some (form.Take n.0 n.1)) (from_stop keyword ws)
-
-abbrev from_feed : List ℕ → List (List ℕ) → Option Form
-from_feed keyword ws = cond (bytes_eq keyword (codes "feed")) (two_numbers plain ws >>= λ n. Some (form.Feed n.0 n.1)) (from_take keyword ws)
-
 abbrev from_change : List ℕ → List (List ℕ) → Option Form
-from_change keyword ws = cond (bytes_eq keyword (codes "change")) (change_form plain ws) (from_feed keyword ws)
+from_change keyword ws = cond (bytes_eq keyword (codes "change")) (change_form plain ws) (plain_form plain keyword ws)
 
 abbrev from_items : List ℕ → List (List ℕ) → Option Form
 from_items keyword ws = cond (bytes_eq keyword (codes "items")) (items_form plain ws) (from_change keyword ws)
@@ -492,14 +460,7 @@ after_got : (keyword : List ℕ) (ws : List (List ℕ)) (f : Form) → form_afte
 after_got keyword ws f h =
     keyword_case keyword (codes "set") ws f (set_form plain ws) (from_items keyword ws) (set_got ws f) (
     keyword_case keyword (codes "items") ws f (items_form plain ws) (from_change keyword ws) (items_got ws f) (
-    keyword_case keyword (codes "change") ws f (change_form plain ws) (from_feed keyword ws) (change_got ws f) (
-    keyword_case keyword (codes "feed") ws f (two_numbers plain ws >>= λ n. Some (form.Feed n.0 n.1)) (from_take keyword ws) (two_form_got (codes "feed") (λ m n. form.Feed m n) (λ m n. refl) ws f) (
-    keyword_case keyword (codes "take") ws f (two_numbers plain ws >>= λ n. Some (form.Take n.0 n.1)) (from_stop keyword ws) (two_form_got (codes "take") (λ m n. form.Take m n) (λ m n. refl) ws f) (
-    keyword_case keyword (codes "stop") ws f (one_number plain ws >>= λ n. Some (form.Stop n)) (from_start keyword ws) (one_form_got (codes "stop") (λ n. form.Stop n) (λ n. refl) ws f) (
-    keyword_case keyword (codes "start") ws f (one_number plain ws >>= λ n. Some (form.Start n)) (from_listen keyword ws) (one_form_got (codes "start") (λ n. form.Start n) (λ n. refl) ws f) (
-    keyword_case keyword (codes "listen") ws f (one_number plain ws >>= λ n. Some (form.Listen n)) (from_unlisten keyword ws) (one_form_got (codes "listen") (λ n. form.Listen n) (λ n. refl) ws f) (
-    keyword_case keyword (codes "unlisten") ws f (one_number plain ws >>= λ n. Some (form.Unlisten n)) (from_end keyword ws) (one_form_got (codes "unlisten") (λ n. form.Unlisten n) (λ n. refl) ws f) (
-    keyword_case keyword (codes "end") ws f (none_left ws >>= λ _. Some form.End) None (end_got ws f) (none_got keyword ws f)))))))))) h
+    keyword_case keyword (codes "change") ws f (change_form plain ws) (plain_form plain keyword ws) (change_got ws f) (plain_got keyword ws f))) h
 
 -- what has a form is that form's spelling
 pub form_text-form_of : (text : List ℕ) (f : Form) → form_of text ≡ Some f → form_text f ≡ text

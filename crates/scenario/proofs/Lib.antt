@@ -1,4 +1,5 @@
 pub mod WordLemmas
+pub mod TableLemmas
 pub mod PastLemmas
 pub mod FaultLemmas
 pub mod CapLemmas
@@ -8,3 +9,4 @@ pub mod GrammarLemmas
 pub mod ReadLemmas
 pub mod WrittenLemmas
 pub mod StandLemmas
+pub mod SoundLemmas

@@ -14,7 +14,7 @@ use Rattle.scenario.specs.declared.line.Line.{Line}
 use Rattle.scenario.specs.declared.line.Line.TheVariants as line
 use Rattle.scenario.specs.declared.tally.Life.{Life}
 use Rattle.scenario.specs.declared.tally.Tally.{Tally}
-use Rattle.scenario.specs.Past.{servers_of, items_of, servers_in, items_in, change_of, changes_in, starts, turns, runs_after, is_running, boot_of, ends, has_ended, listens, listens_in, ids_after, attached_before, attached_in}
+use Rattle.scenario.specs.Past.{sets_direct, is_direct_in, servers_of, items_of, servers_in, items_in, change_of, changes_in, starts, turns, runs_after, is_running, boot_of, ends, has_ended, listens, listens_in, ids_after, attached_before, attached_in}
 use Rattle.scenario.specs.Reading.{fresh, life_of, blank_tally, tally_after, EndHasRoom, Recalls, MayFollow}
 
 pub changes_in-more : (ls : List Line) (l : Line) → changes_in (ls ++ l ∷ []) ≡ changes_in ls ++ change_of l
@@ -62,6 +62,20 @@ pub items_in-more : (ls : List Line) (l : Line) → items_of l ≡ 0 → items_i
 items_in-more [] l h = refl
 items_in-more (m ∷ []) l h = h
 items_in-more (m ∷ (n ∷ ls)) l h = refl
+
+pub is_direct_in-more : (ls : List Line) (l : Line) → sets_direct l ≡ false → is_direct_in (ls ++ l ∷ []) ≡ is_direct_in ls
+is_direct_in-more [] l h = h
+is_direct_in-more (m ∷ ls) l h = refl
+
+direct_first : (ls : List Line) (l : Line) → length ls ≡ 0 → is_direct_in (ls ++ l ∷ []) ≡ sets_direct l
+direct_first [] l h = refl
+direct_first (m ∷ ls) l h = absurd (omega arith)
+
+changes_more : (ls : List Line) (l : Line) (n : ℕ) → n ≡ length (changes_in ls) → n + length (change_of l) ≡ length (changes_in (ls ++ l ∷ []))
+changes_more ls l n e =
+    let grown : length (changes_in ls ++ change_of l) ≡ length (changes_in ls) + length (change_of l) = length-append (changes_in ls) (change_of l) in
+    let more : length (changes_in (ls ++ l ∷ [])) ≡ length (changes_in ls ++ change_of l) = ap length (changes_in-more ls l) in
+    omega arith
 
 servers_first : (ls : List Line) (l : Line) → length ls ≡ 0 → servers_in (ls ++ l ∷ []) ≡ servers_of l
 servers_first [] l h = refl
@@ -151,10 +165,12 @@ ids_of n m xs ys l e f = ap (λ k. ids_after (k + 1) xs l) e ∙ ap (λ zs. ids_
 
 -- what of a table has to be shown for one line more
 record Told (ls : List Line) (t : Tally) (l : Line) : Type 0 where
+  direct : t.direct ≡ is_direct_in (ls ++ l ∷ [])
   servers : t.servers ≡ servers_in (ls ++ l ∷ [])
   few_servers : t.servers ≤ 8
   items : t.items ≡ items_in (ls ++ l ∷ [])
   few_items : t.items ≤ 64
+  changes : t.changes ≡ length (changes_in (ls ++ l ∷ []))
   lives : AreLives t.lives (ls ++ l ∷ [])
   heard : t.listens ≡ listens_in (ls ++ l ∷ [])
   ended : t.ended ≡ has_ended (ls ++ l ∷ [])
@@ -163,25 +179,35 @@ recalls_by : (ls : List Line) (end more : End) (t u : Tally) (ids : List ℕ) (l
     → Recalls (ls ++ l ∷ []) more u (ids_after (t.listens + 1) ids l)
 recalls_by ls end more t u ids l h grown told = record {
   source_is = let P : List Change → Type 0 = λ cs. IsEndOf more cs in subst P (sym (changes_in-more ls l)) grown;
+  direct_is = told.direct;
   servers_are = told.servers;
   few_servers = told.few_servers;
   few_items = told.few_items;
   items_are = told.items;
+  changes_are = told.changes;
   lives_are = told.lives;
   listens_are = told.heard;
   ended_is = told.ended;
   attached_are = ids_of _ _ _ _ l h.listens_are h.attached_are ∙ sym (attached_in-more ls l);
 }
 
+same_changes : (ls : List Line) (end : End) (t : Tally) (ids : List ℕ) (l : Line) → Recalls ls end t ids → length (change_of l) ≡ 0 → t.changes ≡ length (changes_in (ls ++ l ∷ []))
+same_changes ls end t ids l h c =
+    let more : t.changes + length (change_of l) ≡ length (changes_in (ls ++ l ∷ [])) = changes_more ls l t.changes h.changes_are in
+    omega arith
+
 -- a line that says nothing of what the table has
 told_same : (ls : List Line) (end : End) (t : Tally) (ids : List ℕ) (l : Line) → Recalls ls end t ids
-    → servers_of l ≡ 0 → items_of l ≡ 0 → ((server : ℕ) → turns server l ≡ false) → ((server : ℕ) → starts server l ≡ false) → listens l ≡ false → ends l ≡ false
+    → sets_direct l ≡ false → servers_of l ≡ 0 → items_of l ≡ 0 → length (change_of l) ≡ 0
+    → ((server : ℕ) → turns server l ≡ false) → ((server : ℕ) → starts server l ≡ false) → listens l ≡ false → ends l ≡ false
     → Told ls t l
-told_same ls end t ids l h s i turn start listen last = record {
+told_same ls end t ids l h d s i c turn start listen last = record {
+  direct = h.direct_is ∙ sym (is_direct_in-more ls l d);
   servers = h.servers_are ∙ sym (servers_in-more ls l s);
   few_servers = h.few_servers;
   few_items = h.few_items;
   items = h.items_are ∙ sym (items_in-more ls l i);
+  changes = same_changes ls end t ids l h c;
   lives = lives_kept t.lives ls l h.lives_are turn start;
   heard = let e : listens_in (ls ++ l ∷ []) ≡ listens_in ls + 0 = listens_in-more ls l ∙ ap (λ b. listens_in ls + cond b 1 0) listen in
       let k : t.listens ≡ listens_in ls = h.listens_are in omega arith;
@@ -194,6 +220,8 @@ pub recalls_more : (ls : List Line) (end more : End) (t : Tally) (ids : List ℕ
 recalls_more ls end more t ids (line.Set mode servers) long h may grown =
     let l : Line = line.Set mode servers in
     recalls_by ls end more t _ ids l h grown (record {
+      direct = sym (direct_first ls l may.0);
+      changes = same_changes ls end t ids l h refl;
       servers = sym (servers_first ls l may.0);
       few_servers = may.1;
       few_items = h.few_items;
@@ -205,6 +233,8 @@ recalls_more ls end more t ids (line.Set mode servers) long h may grown =
 recalls_more ls end more t ids (line.Items items queue oldest) long h may grown =
     let l : Line = line.Items items queue oldest in
     recalls_by ls end more t _ ids l h grown (record {
+      direct = h.direct_is ∙ sym (is_direct_in-more ls l refl);
+      changes = same_changes ls end t ids l h refl;
       servers = h.servers_are ∙ sym (servers_in-more ls l refl);
       few_servers = h.few_servers;
       few_items = may.1;
@@ -214,17 +244,24 @@ recalls_more ls end more t ids (line.Items items queue oldest) long h may grown 
       ended = h.ended_is ∙ sym (has_ended-more ls l);
     })
 recalls_more ls end more t ids (line.Change change) long h may grown =
-    recalls_by ls end more t _ ids (line.Change change) h grown (told_same ls end t ids (line.Change change) h refl refl (λ _. refl) (λ _. refl) refl refl)
-recalls_more ls end more t ids (line.Feed server count) long h may grown =
-    recalls_by ls end more t _ ids (line.Feed server count) h grown (told_same ls end t ids (line.Feed server count) h refl refl (λ _. refl) (λ _. refl) refl refl)
-recalls_more ls end more t ids (line.Take server count) long h may grown =
-    recalls_by ls end more t _ ids (line.Take server count) h grown (told_same ls end t ids (line.Take server count) h refl refl (λ _. refl) (λ _. refl) refl refl)
-recalls_more ls end more t ids (line.Unlisten id) long h may grown =
-    recalls_by ls end more t _ ids (line.Unlisten id) h grown (told_same ls end t ids (line.Unlisten id) h refl refl (λ _. refl) (λ _. refl) refl refl)
+    let l : Line = line.Change change in
+    recalls_by ls end more t _ ids l h grown (record {
+      direct = h.direct_is ∙ sym (is_direct_in-more ls l refl);
+      changes = changes_more ls l t.changes h.changes_are;
+      servers = h.servers_are ∙ sym (servers_in-more ls l refl);
+      few_servers = h.few_servers;
+      few_items = h.few_items;
+      items = h.items_are ∙ sym (items_in-more ls l refl);
+      lives = lives_kept t.lives ls l h.lives_are (λ _. refl) (λ _. refl);
+      heard = let e : listens_in (ls ++ line.Change change ∷ []) ≡ listens_in ls + 0 = listens_in-more ls (line.Change change) in let k : t.listens ≡ listens_in ls = h.listens_are in omega arith;
+      ended = h.ended_is ∙ sym (has_ended-more ls l);
+    })
 recalls_more ls end more t ids (line.Stop server) long h may grown =
     let l : Line = line.Stop server in
     let under : server ≤ 8 = let e : t.servers ≡ servers_in ls = h.servers_are in let f : t.servers ≤ 8 = h.few_servers in omega arith in
     recalls_by ls end more t _ ids l h grown (record {
+      direct = h.direct_is ∙ sym (is_direct_in-more ls l refl);
+      changes = same_changes ls end t ids l h refl;
       servers = h.servers_are ∙ sym (servers_in-more ls l refl);
       few_servers = h.few_servers;
       few_items = h.few_items;
@@ -237,6 +274,8 @@ recalls_more ls end more t ids (line.Start server) long h may grown =
     let l : Line = line.Start server in
     let under : server ≤ 8 = let e : t.servers ≡ servers_in ls = h.servers_are in let f : t.servers ≤ 8 = h.few_servers in omega arith in
     recalls_by ls end more t _ ids l h grown (record {
+      direct = h.direct_is ∙ sym (is_direct_in-more ls l refl);
+      changes = same_changes ls end t ids l h refl;
       servers = h.servers_are ∙ sym (servers_in-more ls l refl);
       few_servers = h.few_servers;
       few_items = h.few_items;
@@ -248,6 +287,8 @@ recalls_more ls end more t ids (line.Start server) long h may grown =
 recalls_more ls end more t ids (line.Listen item) long h may grown =
     let l : Line = line.Listen item in
     recalls_by ls end more t _ ids l h grown (record {
+      direct = h.direct_is ∙ sym (is_direct_in-more ls l refl);
+      changes = same_changes ls end t ids l h refl;
       servers = h.servers_are ∙ sym (servers_in-more ls l refl);
       few_servers = h.few_servers;
       few_items = h.few_items;
@@ -258,6 +299,8 @@ recalls_more ls end more t ids (line.Listen item) long h may grown =
     })
 recalls_more ls end more t ids line.End long h may grown =
     recalls_by ls end more t _ ids line.End h grown (record {
+      direct = h.direct_is ∙ sym (is_direct_in-more ls line.End refl);
+      changes = same_changes ls end t ids line.End h refl;
       servers = h.servers_are ∙ sym (servers_in-more ls line.End refl);
       few_servers = h.few_servers;
       few_items = h.few_items;
@@ -266,11 +309,14 @@ recalls_more ls end more t ids line.End long h may grown =
       heard = let e : listens_in (ls ++ line.End ∷ []) ≡ listens_in ls + 0 = listens_in-more ls line.End in let k : t.listens ≡ listens_in ls = h.listens_are in omega arith;
       ended = sym (has_ended-more ls line.End);
     })
+recalls_more ls end more t ids l long h may grown = recalls_by ls end more t _ ids l h grown (told_same ls end t ids l h refl refl refl refl (λ _. refl) (λ _. refl) refl refl)
 
 -- before any line nothing is recalled
 pub recalls_none : (end : End) → end ≡ no_end → Recalls [] end blank_tally []
 recalls_none end e = record {
   source_is = no_end_is end e;
+  direct_is = refl;
+  changes_are = refl;
   servers_are = refl;
   few_servers = omega arith;
   items_are = refl;

@@ -6,7 +6,7 @@ use Rattle.std.specs.Char.{is_ascii_digit}
 use Rattle.std.proofs.lemmas.Bool.Decides.{nat_tests}
 use Rattle.std.proofs.lemmas.List.{take_rest}
 use Rattle.scenario.specs.Words.{with_first, lines_of, words_of, dotted, digits_from, capped, read_by}
-use Rattle.scenario.specs.Grammar.{none_left, newest_at, rule_at}
+use Rattle.scenario.specs.Grammar.{none_left, newest_at, rule_at, numbers_at, some_numbers, numbers_after, two_numbers}
 
 abbrev pub is_at : ℕ → ℕ → Bool
 is_at sep byte = byte == sep
@@ -143,6 +143,22 @@ rule_first (word ∷ words) h = refl
 -- where words are left, they must say that the newest is discarded
 pub rule_some : (text : List ℕ) → rule_at (words_of text) ≡ newest_at (words_of text)
 rule_some text = rule_first (words_of text) (words_some text)
+
+numbers_first : (words : List (List ℕ)) → none_left words ≡ None → numbers_at capped words ≡ some_numbers capped words
+numbers_first [] h = absurd cc
+numbers_first (word ∷ words) h = refl
+
+-- where words are left, they must say one number or two
+pub numbers_some : (text : List ℕ) → numbers_at capped (words_of text) ≡ some_numbers capped (words_of text)
+numbers_some text = numbers_first (words_of text) (words_some text)
+
+two_first : (first : ℕ) (words : List (List ℕ)) → none_left words ≡ None → numbers_after capped first words ≡ two_numbers capped first words
+two_first first [] h = absurd cc
+two_first first (word ∷ words) h = refl
+
+-- where words are left after a number, they must say exactly one more
+pub two_some : (first : ℕ) (text : List ℕ) → numbers_after capped first (words_of text) ≡ two_numbers capped first (words_of text)
+two_some first text = two_first first (words_of text) (words_some text)
 
 -- digits read with each step capped
 abbrev pub capped_digits : ℕ → List ℕ → Option ℕ

@@ -1,5 +1,5 @@
 -- What is written is read again, and what is read was written so.
-use Rattle.std.proofs.Common.{◌≡◌, ◌==◌, ℕ, ◌+◌, ◌<◌, ◌^◌, ◌⊎◌, inl, inr, List, [], ◌∷◌, ◌++◌, Bool, true, false, cond, Option, Some, None, Ok, length, refl, sym, ◌∙◌, ap, subst, arith}
+use Rattle.std.proofs.Common.{◌≡◌, ◌==◌, ℕ, ◌+◌, ◌-◌, ◌<◌, ◌≤◌, ◌^◌, ◌⊎◌, inl, inr, List, [], ◌∷◌, ◌++◌, Bool, true, false, cond, Option, Some, None, Ok, length, refl, sym, ◌∙◌, ap, subst, arith}
 use Rattle.std.specs.Prelude.{codes, map, ◌&&◌}
 use Rattle.std.specs.List.{flat_map}
 use Rattle.std.specs.Fmt.{decimal, signed_decimal}
@@ -9,15 +9,22 @@ use Rattle.std.proofs.lemmas.List.{append_assoc, append-nil}
 use Rattle.scenario.specs.declared.form.Form.{Form}
 use Rattle.scenario.specs.declared.form.Form.TheVariants as form
 use Rattle.scenario.specs.declared.line.Line.{Line}
-use Rattle.scenario.specs.Texts.{mode_text, line_text, rule_text, written}
+use Rattle.scenario.specs.declared.rules.Rules.{Rules}
+use Rattle.scenario.specs.declared.table.Name.{Name}
+use Rattle.scenario.specs.declared.table.Name.TheVariants as name
+use Rattle.scenario.specs.declared.table.Numbers.{Numbers}
+use Rattle.scenario.specs.declared.table.Numbers.TheVariants as numbers
+use Rattle.scenario.specs.Table.{row_of, word_of, line_with, first_of, second_of}
+use Rattle.scenario.proofs.TableLemmas.{AreBelow, all_below, all_suit, bounds_low, shaped, within_range}
+use Rattle.scenario.specs.Texts.{mode_text, line_text, numbers_text, rule_text, shape_text, written}
 use Rattle.set_model.specs.Stamp.{pico_text}
 use Rattle.scenario.specs.Words.{with_first, lines_of, spaced_after, numeral, signed_numeral, stamp_numeral}
-use Rattle.scenario.specs.Grammar.{none_left, as_written, form_of, form_text, rule_words, written_as, written_form, written_pico}
+use Rattle.scenario.specs.Grammar.{none_left, as_written, form_of, form_text, rule_words, number_words, written_as, written_form, written_pico}
 use Rattle.scenario.specs.Past.{servers_of, items_of, servers_in, items_in, has_ended}
-use Rattle.scenario.specs.Faults.{is_within, fits_value, pico_of, fault_of, line_of, judged}
+use Rattle.scenario.specs.Faults.{is_within, fits_value, pico_of, fault_of, line_of, line_or_fault}
 use Rattle.scenario.specs.Scenario.{kind_at_end, valid_from, scenario_of}
 use Rattle.scenario.specs.Valid.{AllAllowed}
-use Rattle.scenario.proofs.FaultLemmas.{Passes, taken, within_range, verdict_ok}
+use Rattle.scenario.proofs.FaultLemmas.{Passes, taken, numbers_passed, verdict_ok}
 use Rattle.scenario.proofs.NumeralLemmas.{numeral-decimal, signed_numeral-decimal}
 use Rattle.scenario.proofs.ReadLemmas.{IsRead, AllRead, read_by_form, line_of-written, fault-written, lines_of-written, read_written}
 use Rattle.scenario.proofs.ValidLemmas.{ended_ok, go_on_ok}
@@ -33,8 +40,8 @@ join3 a b c =
 
 -- the set is small enough that its numbers are printed as they are spelled
 pub record Small (before : List Line) : Type 0 where
-  pub servers : servers_in before < 2 ^ 64
-  pub items : items_in before < 2 ^ 64
+  pub servers : servers_in before < 2 ^ 64 - 1
+  pub items : items_in before < 2 ^ 64 - 1
 
 joined_after : (a q b c : List ℕ) → ((a ++ q) ++ b) ++ c ≡ a ++ (q ++ (b ++ c))
 joined_after a q b c = append_assoc (a ++ q) b c ∙ append_assoc a q (b ++ c)
@@ -53,13 +60,28 @@ stamp_written : (time : ℕ) (pico : Option ℕ) → time < 2 ^ 64 → pico_of p
 stamp_written time None small few = append-nil (decimal time) ∙ sym (numeral-decimal time small)
 stamp_written time (Some pico) small few = stamp_case time pico (pico == 0) small few
 
+-- numbers are printed as they are spelled
+numbers_written : (said : Numbers) → AreBelow (2 ^ 64 - 1) said → numbers_text said ≡ spaced_after (number_words said)
+numbers_written numbers.Nothing h = refl
+numbers_written (numbers.One m) h =
+    let few : m < 2 ^ 64 = omega arith in
+    ap (λ d. 32 ∷ d) (sym (numeral-decimal m few) ∙ sym (append-nil (numeral m)))
+numbers_written (numbers.Two m n) h =
+    let first : m < 2 ^ 64 - 1 = h.0 in
+    let second : n < 2 ^ 64 - 1 = h.1 in
+    let few : m < 2 ^ 64 = omega arith in
+    let small : n < 2 ^ 64 = omega arith in
+    ap (λ d. codes " " ++ d ++ codes " " ++ decimal n) (sym (numeral-decimal m few))
+    ∙ ap (λ d. codes " " ++ numeral m ++ codes " " ++ d) (sym (numeral-decimal n small))
+    ∙ ap (λ r. 32 ∷ r) (join2 (numeral m) (numeral n))
+
 -- a line that was taken is printed as its form is spelled, without picoseconds of 0
-pub text_of : (pool : ℕ) (before : List Line) (f : Form) → Small before → Passes pool before f → line_text (line_of f) ≡ form_text (written_form f)
-text_of pool before (form.Set mode servers) small p =
+pub text_of : (rules : Rules) (before : List Line) (f : Form) → Small before → Passes rules before f → line_text (line_of f) ≡ form_text (written_form f)
+text_of rules before (form.Set mode servers) small p =
     let w = within_range 1 8 servers p.range in
     let n : servers < 2 ^ 64 = omega arith in
     ap (λ d. codes "set " ++ mode_text mode ++ codes " " ++ d) (sym (numeral-decimal servers n)) ∙ ap (λ r. codes "set " ++ r) (join2 (mode_text mode) (numeral servers))
-text_of pool before (form.Items items queue oldest) small p =
+text_of rules before (form.Items items queue oldest) small p =
     let parts = and_parts (is_within 1 64 items) (is_within 2 1000 queue) p.range in
     let a = within_range 1 64 items parts.0 in
     let b = within_range 2 1000 queue parts.1 in
@@ -69,58 +91,25 @@ text_of pool before (form.Items items queue oldest) small p =
     ∙ ap (λ d. codes "items " ++ numeral items ++ codes " queue " ++ d ++ rule_text oldest) (sym (numeral-decimal queue n))
     ∙ ap (λ r. codes "items " ++ numeral items ++ codes " queue " ++ numeral queue ++ r) (rule_written oldest)
     ∙ ap (λ r. codes "items " ++ r) (joined_after (numeral items) (codes " queue ") (numeral queue) (spaced_after (rule_words oldest)))
-text_of pool before (form.Change item time pico value) small p =
+text_of rules before (form.Change item time pico value) small p =
     let parts = and_parts (is_within 1 (10 ^ 18) time && is_within 0 9999 (pico_of pico)) (fits_value value) p.range in
     let stamp = and_parts (is_within 1 (10 ^ 18) time) (is_within 0 9999 (pico_of pico)) parts.0 in
     let a = within_range 1 (10 ^ 18) time stamp.0 in
     let b = within_range 0 9999 (pico_of pico) stamp.1 in
     let k : pico_of pico < 2 ^ 64 = omega arith in
     let i = within_range 1 (items_in before) item p.item in
-    let few : items_in before < 2 ^ 64 = small.items in
+    let few : items_in before < 2 ^ 64 - 1 = small.items in
     let m : item < 2 ^ 64 = omega arith in
     let n : time < 2 ^ 64 = omega arith in
     ap (λ d. codes "change " ++ d ++ codes " " ++ (decimal time ++ pico_text (pico_of pico)) ++ codes " " ++ signed_decimal value) (sym (numeral-decimal item m))
     ∙ ap (λ d. codes "change " ++ numeral item ++ codes " " ++ d ++ codes " " ++ signed_decimal value) (stamp_written time pico n k)
     ∙ ap (λ d. codes "change " ++ numeral item ++ codes " " ++ stamp_numeral time (written_pico pico) ++ codes " " ++ d) (sym (signed_numeral-decimal value parts.1))
     ∙ ap (λ r. codes "change " ++ r) (join3 (numeral item) (stamp_numeral time (written_pico pico)) (signed_numeral value))
-text_of pool before (form.Feed server count) small p =
-    let a = within_range 1 200000 count p.range in
-    let s = within_range 1 (servers_in before) server p.server in
-    let few : servers_in before < 2 ^ 64 = small.servers in
-    let m : server < 2 ^ 64 = omega arith in
-    let n : count < 2 ^ 64 = omega arith in
-    ap (λ d. codes "feed " ++ d ++ codes " " ++ decimal count) (sym (numeral-decimal server m))
-    ∙ ap (λ d. codes "feed " ++ numeral server ++ codes " " ++ d) (sym (numeral-decimal count n))
-    ∙ ap (λ r. codes "feed " ++ r) (join2 (numeral server) (numeral count))
-text_of pool before (form.Take server count) small p =
-    let a = within_range 1 1000 count p.range in
-    let s = within_range 1 (servers_in before) server p.server in
-    let few : servers_in before < 2 ^ 64 = small.servers in
-    let m : server < 2 ^ 64 = omega arith in
-    let n : count < 2 ^ 64 = omega arith in
-    ap (λ d. codes "take " ++ d ++ codes " " ++ decimal count) (sym (numeral-decimal server m))
-    ∙ ap (λ d. codes "take " ++ numeral server ++ codes " " ++ d) (sym (numeral-decimal count n))
-    ∙ ap (λ r. codes "take " ++ r) (join2 (numeral server) (numeral count))
-text_of pool before (form.Stop server) small p =
-    let s = within_range 1 (servers_in before) server p.server in
-    let few : servers_in before < 2 ^ 64 = small.servers in
-    let m : server < 2 ^ 64 = omega arith in
-    ap (λ d. codes "stop " ++ d) (sym (numeral-decimal server m) ∙ sym (append-nil (numeral server)))
-text_of pool before (form.Start server) small p =
-    let s = within_range 1 (servers_in before) server p.server in
-    let few : servers_in before < 2 ^ 64 = small.servers in
-    let m : server < 2 ^ 64 = omega arith in
-    ap (λ d. codes "start " ++ d) (sym (numeral-decimal server m) ∙ sym (append-nil (numeral server)))
-text_of pool before (form.Listen item) small p =
-    let i = within_range 1 (items_in before) item p.item in
-    let few : items_in before < 2 ^ 64 = small.items in
-    let m : item < 2 ^ 64 = omega arith in
-    ap (λ d. codes "listen " ++ d) (sym (numeral-decimal item m) ∙ sym (append-nil (numeral item)))
-text_of pool before (form.Unlisten id) small p =
-    let a = within_range 1 255 id p.range in
-    let m : id < 2 ^ 64 = omega arith in
-    ap (λ d. codes "unlisten " ++ d) (sym (numeral-decimal id m) ∙ sym (append-nil (numeral id)))
-text_of pool before form.End small p = refl
+text_of rules before (form.Plain n said) small p =
+    let passed = numbers_passed rules before n said p in
+    let suit = all_suit (servers_in before) (items_in before) (row_of n).arguments said passed in
+    let below = all_below (servers_in before) (items_in before) (row_of n).arguments said small.servers small.items (bounds_low n) suit in
+    ap shape_text (shaped n said passed.count) ∙ ap (λ r. word_of n ++ r) (numbers_written said below)
 
 -- one line more keeps the set small
 servers_either : (ls : List Line) (l : Line) → (servers_in (ls ++ l ∷ []) ≡ servers_in ls) ⊎ (servers_in (ls ++ l ∷ []) ≡ servers_of l)
@@ -132,52 +121,50 @@ items_either [] l = inl refl
 items_either (m ∷ []) l = inr refl
 items_either (m ∷ (n ∷ ls)) l = inl refl
 
-pub few_of : (pool : ℕ) (before : List Line) (f : Form) → Passes pool before f → (servers_of (line_of f) < 2 ^ 64) × (items_of (line_of f) < 2 ^ 64)
-few_of pool before (form.Set mode servers) p = let w = within_range 1 8 servers p.range in (omega arith, omega arith)
-few_of pool before (form.Items items queue oldest) p =
+table_few : (n : Name) (first second : ℕ) → (servers_of (line_with n first second) ≤ 8) × (items_of (line_with n first second) ≤ 64)
+table_few name.End first second = (omega arith, omega arith)
+table_few _ first second = (omega arith, omega arith)
+
+pub few_of : (rules : Rules) (before : List Line) (f : Form) → Passes rules before f → (servers_of (line_of f) ≤ 8) × (items_of (line_of f) ≤ 64)
+few_of rules before (form.Set mode servers) p = let w = within_range 1 8 servers p.range in (omega arith, omega arith)
+few_of rules before (form.Items items queue oldest) p =
     let parts = and_parts (is_within 1 64 items) (is_within 2 1000 queue) p.range in
     let a = within_range 1 64 items parts.0 in (omega arith, omega arith)
-few_of pool before (form.Change item time pico value) p = (omega arith, omega arith)
-few_of pool before (form.Feed server count) p = (omega arith, omega arith)
-few_of pool before (form.Take server count) p = (omega arith, omega arith)
-few_of pool before (form.Stop server) p = (omega arith, omega arith)
-few_of pool before (form.Start server) p = (omega arith, omega arith)
-few_of pool before (form.Listen item) p = (omega arith, omega arith)
-few_of pool before (form.Unlisten id) p = (omega arith, omega arith)
-few_of pool before form.End p = (omega arith, omega arith)
+few_of rules before (form.Plain n said) p = table_few n (first_of said) (second_of said)
+few_of rules before _ p = (omega arith, omega arith)
 
-pub small_more : (before : List Line) (l : Line) → Small before → (servers_of l < 2 ^ 64) × (items_of l < 2 ^ 64) → Small (before ++ l ∷ [])
+pub small_more : (before : List Line) (l : Line) → Small before → (servers_of l ≤ 8) × (items_of l ≤ 64) → Small (before ++ l ∷ [])
 small_more before l small few =
-    let s : servers_in before < 2 ^ 64 = small.servers in
-    let i : items_in before < 2 ^ 64 = small.items in
-    let m : servers_of l < 2 ^ 64 = few.0 in
-    let n : items_of l < 2 ^ 64 = few.1 in
+    let s : servers_in before < 2 ^ 64 - 1 = small.servers in
+    let i : items_in before < 2 ^ 64 - 1 = small.items in
+    let m : servers_of l ≤ 8 = few.0 in
+    let n : items_of l ≤ 64 = few.1 in
     record {
       servers = elim (servers_either before l) [ inl e ↦ omega arith | inr e ↦ omega arith ];
       items = elim (items_either before l) [ inl e ↦ omega arith | inr e ↦ omega arith ];
     }
 
 -- the texts of a valid text are its lines' texts, and nothing is wrong with any
-record Spelled (pool : ℕ) (before lines : List Line) (texts : List (List ℕ)) : Type 0 where
+record Spelled (rules : Rules) (before lines : List Line) (texts : List (List ℕ)) : Type 0 where
   more : List Line
   lines_are : lines ≡ before ++ more
   texts_are : map as_written texts ≡ map line_text more
-  read : AllRead pool before more
+  read : AllRead rules before more
   at_end : has_ended lines ≡ true
 
-spelled : (pool : ℕ) (before : List Line) (texts : List (List ℕ)) (lines : List Line) → Small before → valid_from pool before texts ≡ Ok lines → Spelled pool before lines texts
-spelled pool before [] lines small h =
+spelled : (rules : Rules) (before : List Line) (texts : List (List ℕ)) (lines : List Line) → Small before → valid_from rules before texts ≡ Ok lines → Spelled rules before lines texts
+spelled rules before [] lines small h =
     let e = ended_ok (has_ended before) before lines (record { line = length before + 1; kind = kind_at_end before }) refl h in
     record { more = []; lines_are = sym e.1 ∙ sym (append-nil before); texts_are = refl; read = tt; at_end = ap has_ended (sym e.1) ∙ e.0 }
-spelled pool before (text ∷ texts) lines small h =
-    let g = go_on_ok before lines (λ l. valid_from pool (before ++ l ∷ []) texts) (judged pool before text) h in
-    let t = taken pool before text g.0 g.1 in
-    let P : Line → Type 0 = λ l. (servers_of l < 2 ^ 64) × (items_of l < 2 ^ 64) in
-    let s = spelled pool (before ++ g.0 ∷ []) texts lines (small_more before g.0 small (subst P t.line_is (few_of pool before t.f t.passes))) g.2 in
-    let printed : line_text g.0 ≡ form_text (written_form t.f) = ap line_text (sym t.line_is) ∙ text_of pool before t.f small t.passes in
+spelled rules before (text ∷ texts) lines small h =
+    let g = go_on_ok before lines (λ l. valid_from rules (before ++ l ∷ []) texts) (line_or_fault rules before text) h in
+    let t = taken rules before text g.0 g.1 in
+    let P : Line → Type 0 = λ l. (servers_of l ≤ 8) × (items_of l ≤ 64) in
+    let s = spelled rules (before ++ g.0 ∷ []) texts lines (small_more before g.0 small (subst P t.line_is (few_of rules before t.f t.passes))) g.2 in
+    let printed : line_text g.0 ≡ form_text (written_form t.f) = ap line_text (sym t.line_is) ∙ text_of rules before t.f small t.passes in
     let same : as_written text ≡ line_text g.0 = ap (written_as text) t.is ∙ sym printed in
-    let read : IsRead pool before g.0 =
-    read_by_form pool before (written_form t.f) g.0 t.few (fault-written pool before t.f ∙ t.sound) (line_of-written t.f ∙ t.line_is) printed in
+    let read : IsRead rules before g.0 =
+    read_by_form rules before (written_form t.f) g.0 t.few (fault-written rules before t.f ∙ t.sound) (line_of-written t.f ∙ t.line_is) printed in
     record {
       more = g.0 ∷ s.more;
       lines_are = s.lines_are ∙ append_assoc before (g.0 ∷ []) s.more;
@@ -240,46 +227,46 @@ joined-lines_of : (bytes : List ℕ) → (joined (lines_of bytes) ≡ bytes) ⊎
 joined-lines_of [] = inl refl
 joined-lines_of (b ∷ rest) = join_case b rest (b == 10) refl (joined-lines_of rest)
 
-spelled_all : (pool : ℕ) (bytes : List ℕ) (lines : List Line) → scenario_of pool bytes ≡ Ok lines → Spelled pool [] lines (lines_of bytes)
-spelled_all pool bytes lines h = spelled pool [] (lines_of bytes) lines (record { servers = omega arith; items = omega arith }) h
+spelled_all : (rules : Rules) (bytes : List ℕ) (lines : List Line) → scenario_of rules bytes ≡ Ok lines → Spelled rules [] lines (lines_of bytes)
+spelled_all rules bytes lines h = spelled rules [] (lines_of bytes) lines (record { servers = omega arith; items = omega arith }) h
 
-all_read : (pool : ℕ) (bytes : List ℕ) (lines : List Line) → scenario_of pool bytes ≡ Ok lines → AllRead pool [] lines
-all_read pool bytes lines h =
-    let s = spelled_all pool bytes lines h in
-    let P : List Line → Type 0 = λ all. AllRead pool [] all in
+all_read : (rules : Rules) (bytes : List ℕ) (lines : List Line) → scenario_of rules bytes ≡ Ok lines → AllRead rules [] lines
+all_read rules bytes lines h =
+    let s = spelled_all rules bytes lines h in
+    let P : List Line → Type 0 = λ all. AllRead rules [] all in
     subst P (sym s.lines_are) s.read
 
 -- line by line, what is written is what was read, without picoseconds of 0
-pub written_lines : (pool : ℕ) (bytes : List ℕ) (lines : List Line) → scenario_of pool bytes ≡ Ok lines → lines_of (written lines) ≡ map as_written (lines_of bytes)
-written_lines pool bytes lines h =
-    let s = spelled_all pool bytes lines h in
-    lines_of-written pool [] lines (all_read pool bytes lines h) ∙ ap (map line_text) s.lines_are ∙ sym s.texts_are
+pub written_lines : (rules : Rules) (bytes : List ℕ) (lines : List Line) → scenario_of rules bytes ≡ Ok lines → lines_of (written lines) ≡ map as_written (lines_of bytes)
+written_lines rules bytes lines h =
+    let s = spelled_all rules bytes lines h in
+    lines_of-written rules [] lines (all_read rules bytes lines h) ∙ ap (map line_text) s.lines_are ∙ sym s.texts_are
 
-written_is : (pool : ℕ) (bytes : List ℕ) (lines : List Line) → scenario_of pool bytes ≡ Ok lines → map as_written (lines_of bytes) ≡ lines_of bytes
+written_is : (rules : Rules) (bytes : List ℕ) (lines : List Line) → scenario_of rules bytes ≡ Ok lines → map as_written (lines_of bytes) ≡ lines_of bytes
     → joined (lines_of bytes) ≡ written lines
-written_is pool bytes lines h plain =
-    let s = spelled_all pool bytes lines h in
+written_is rules bytes lines h plain =
+    let s = spelled_all rules bytes lines h in
     ap joined (sym plain ∙ s.texts_are) ∙ joined-texts s.more ∙ ap written (sym s.lines_are)
 
 -- what was read is what would be written, but for the last line feed, where no line says picoseconds of 0
-pub written_again : (pool : ℕ) (bytes : List ℕ) (lines : List Line) → scenario_of pool bytes ≡ Ok lines → map as_written (lines_of bytes) ≡ lines_of bytes
+pub written_again : (rules : Rules) (bytes : List ℕ) (lines : List Line) → scenario_of rules bytes ≡ Ok lines → map as_written (lines_of bytes) ≡ lines_of bytes
     → (bytes ≡ written lines) ⊎ (bytes ++ 10 ∷ [] ≡ written lines)
-written_again pool bytes lines h plain =
+written_again rules bytes lines h plain =
     elim (joined-lines_of bytes) [
-      | inl e ↦ inl (sym e ∙ written_is pool bytes lines h plain)
-      | inr l ↦ inr (sym l.joined_is ∙ written_is pool bytes lines h plain)
+      | inl e ↦ inl (sym e ∙ written_is rules bytes lines h plain)
+      | inr l ↦ inr (sym l.joined_is ∙ written_is rules bytes lines h plain)
     ]
 
 -- what is written of a scenario is read as the same lines
-pub reads_again : (pool : ℕ) (bytes : List ℕ) (lines : List Line) → scenario_of pool bytes ≡ Ok lines → scenario_of pool (written lines) ≡ Ok lines
-reads_again pool bytes lines h = read_written pool lines (all_read pool bytes lines h) (spelled_all pool bytes lines h).at_end
+pub reads_again : (rules : Rules) (bytes : List ℕ) (lines : List Line) → scenario_of rules bytes ≡ Ok lines → scenario_of rules (written lines) ≡ Ok lines
+reads_again rules bytes lines h = read_written rules lines (all_read rules bytes lines h) (spelled_all rules bytes lines h).at_end
 
 -- nothing is wrong with a line that is read
-none_wrong : (pool : ℕ) (before ls : List Line) → AllRead pool before ls → AllAllowed pool before ls
-none_wrong pool before [] h = tt
-none_wrong pool before (l ∷ ls) h =
-    ((verdict_ok (fault_of pool before (line_text l)) (form_of (line_text l)) l h.0.again).0, none_wrong pool (before ++ l ∷ []) ls h.1)
+none_wrong : (rules : Rules) (before ls : List Line) → AllRead rules before ls → AllAllowed rules before ls
+none_wrong rules before [] h = tt
+none_wrong rules before (l ∷ ls) h =
+    ((verdict_ok (fault_of rules before (line_text l)) (form_of (line_text l)) l h.0.again).0, none_wrong rules (before ++ l ∷ []) ls h.1)
 
 -- nothing is wrong with any line of a valid text after those before it
-pub all_allowed : (pool : ℕ) (bytes : List ℕ) (lines : List Line) → scenario_of pool bytes ≡ Ok lines → AllAllowed pool [] lines
-all_allowed pool bytes lines h = none_wrong pool [] lines (all_read pool bytes lines h)
+pub all_allowed : (rules : Rules) (bytes : List ℕ) (lines : List Line) → scenario_of rules bytes ≡ Ok lines → AllAllowed rules [] lines
+all_allowed rules bytes lines h = none_wrong rules [] lines (all_read rules bytes lines h)

@@ -5,6 +5,9 @@ use Rattle.ua_base.specs.declared.modes.SetMode.{SetMode}
 use Rattle.ua_base.specs.declared.modes.SetMode.TheVariants.{Direct, Hot, Warm, Cold}
 use Rattle.scenario.specs.declared.form.Form.{Form}
 use Rattle.scenario.specs.declared.form.Form.TheVariants as form
+use Rattle.scenario.specs.declared.table.Numbers.{Numbers}
+use Rattle.scenario.specs.declared.table.Numbers.TheVariants as numbers
+use Rattle.scenario.specs.Table.{word_of, name_of}
 use Rattle.scenario.specs.Texts.{mode_text}
 use Rattle.scenario.specs.Words.{◌>>=◌, words_of, spaced, numeral, stamp_numeral, signed_numeral, number_by, stamp_by}
 use Rattle.scenario.specs.Words.{integer_by, capped}
@@ -14,6 +17,11 @@ abbrev pub rule_words : Bool → List (List ℕ)
 rule_words true = []
 rule_words false = codes "discard" ∷ codes "newest" ∷ []
 
+abbrev pub number_words : Numbers → List (List ℕ)
+number_words numbers.Nothing = []
+number_words (numbers.One first) = numeral first ∷ []
+number_words (numbers.Two first second) = numeral first ∷ numeral second ∷ []
+
 -- the words of a form
 abbrev pub form_words : Form → List (List ℕ)
 form_words (form.Set mode servers) = codes "set" ∷ mode_text mode ∷ numeral servers ∷ []
@@ -21,13 +29,7 @@ form_words (form.Items items queue oldest) =
     codes "items" ∷ numeral items ∷ codes "queue" ∷ numeral queue ∷ rule_words oldest
 form_words (form.Change item time pico value) =
     codes "change" ∷ numeral item ∷ stamp_numeral time pico ∷ signed_numeral value ∷ []
-form_words (form.Feed server count) = codes "feed" ∷ numeral server ∷ numeral count ∷ []
-form_words (form.Take server count) = codes "take" ∷ numeral server ∷ numeral count ∷ []
-form_words (form.Stop server) = codes "stop" ∷ numeral server ∷ []
-form_words (form.Start server) = codes "start" ∷ numeral server ∷ []
-form_words (form.Listen item) = codes "listen" ∷ numeral item ∷ []
-form_words (form.Unlisten id) = codes "unlisten" ∷ numeral id ∷ []
-form_words form.End = codes "end" ∷ []
+form_words (form.Plain name said) = word_of name ∷ number_words said
 
 -- the one spelling of a form
 abbrev pub form_text : Form → List ℕ
@@ -82,12 +84,22 @@ one_number cap words = do
   _ ← none_left first.1
   Some first.0
 
--- exactly two numbers
-abbrev pub two_numbers : (ℕ → ℕ) → List (List ℕ) → Option (ℕ × ℕ)
-two_numbers cap words = do
-  first ← number_at cap words
-  second ← one_number cap first.1
-  Some (first.0, second)
+-- the first number, and exactly one more
+abbrev pub two_numbers : (ℕ → ℕ) → ℕ → List (List ℕ) → Option Numbers
+two_numbers cap first words = one_number cap words >>= λ second. Some (numbers.Two first second)
+
+-- one number, or two where a second follows
+abbrev pub numbers_after : (ℕ → ℕ) → ℕ → List (List ℕ) → Option Numbers
+numbers_after cap first [] = Some (numbers.One first)
+numbers_after cap first (word ∷ words) = two_numbers cap first (word ∷ words)
+
+abbrev pub some_numbers : (ℕ → ℕ) → List (List ℕ) → Option Numbers
+some_numbers cap words = number_at cap words >>= λ first. numbers_after cap first.0 first.1
+
+-- up to two numbers, and nothing else
+abbrev pub numbers_at : (ℕ → ℕ) → List (List ℕ) → Option Numbers
+numbers_at cap [] = Some numbers.Nothing
+numbers_at cap (word ∷ words) = some_numbers cap (word ∷ words)
 
 abbrev pub set_form : (ℕ → ℕ) → List (List ℕ) → Option Form
 set_form cap words = do
@@ -129,20 +141,19 @@ change_form cap words = do
   _ ← none_left value.1
   Some (form.Change item.0 stamp.0.0 stamp.0.1 value.0)
 
+abbrev pub plain_form : (ℕ → ℕ) → List ℕ → List (List ℕ) → Option Form
+plain_form cap keyword words = do
+  name ← name_of keyword
+  said ← numbers_at cap words
+  Some (form.Plain name said)
+
 -- the form after its first word; numbers are read through `cap`
 abbrev pub form_after : (ℕ → ℕ) → List ℕ → List (List ℕ) → Option Form
 form_after cap keyword words =
     if bytes_eq keyword (codes "set") then set_form cap words
     else if bytes_eq keyword (codes "items") then items_form cap words
     else if bytes_eq keyword (codes "change") then change_form cap words
-    else if bytes_eq keyword (codes "feed") then (two_numbers cap words >>= λ n. Some (form.Feed n.0 n.1))
-    else if bytes_eq keyword (codes "take") then (two_numbers cap words >>= λ n. Some (form.Take n.0 n.1))
-    else if bytes_eq keyword (codes "stop") then (one_number cap words >>= λ n. Some (form.Stop n))
-    else if bytes_eq keyword (codes "start") then (one_number cap words >>= λ n. Some (form.Start n))
-    else if bytes_eq keyword (codes "listen") then (one_number cap words >>= λ n. Some (form.Listen n))
-    else if bytes_eq keyword (codes "unlisten") then (one_number cap words >>= λ n. Some (form.Unlisten n))
-    else if bytes_eq keyword (codes "end") then (none_left words >>= λ _. Some form.End)
-    else None
+    else plain_form cap keyword words
 
 -- picoseconds of 0 are not written
 abbrev pub written_pico : Option ℕ → Option ℕ

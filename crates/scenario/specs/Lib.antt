@@ -1,8 +1,12 @@
-pub mod Texts
 pub mod Words
+pub mod Table
+pub mod Texts
 pub mod Grammar
 pub mod Past
+pub mod Rules
 pub mod Faults
 pub mod Reading
+pub mod Sound
+pub mod Generate
 pub mod Scenario
 pub mod Valid

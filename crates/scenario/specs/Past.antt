@@ -2,9 +2,24 @@
 use Rattle.std.specs.Prelude.{◌==◌, ℕ, ◌+◌, List, [], ◌∷◌, ◌++◌, Bool, true, false, not, Option, Some, length}
 use Rattle.std.specs.Prelude.{reverse, find, filter}
 use Rattle.std.specs.List.{flat_map, list_any}
+use Rattle.ua_base.specs.declared.modes.SetMode.{SetMode}
+use Rattle.ua_base.specs.declared.modes.SetMode.TheVariants.{Direct}
 use Rattle.set_model.specs.declared.source.Change.{Change}
 use Rattle.scenario.specs.declared.line.Line.{Line}
 use Rattle.scenario.specs.declared.line.Line.TheVariants as line
+
+abbrev pub is_direct : SetMode → Bool
+is_direct Direct = true
+is_direct _ = false
+
+-- a first line says direct mode
+abbrev pub sets_direct : Line → Bool
+sets_direct (line.Set mode servers) = is_direct mode
+sets_direct _ = false
+
+abbrev pub is_direct_in : List Line → Bool
+is_direct_in [] = false
+is_direct_in (first ∷ rest) = sets_direct first
 
 -- how many servers a first line says
 abbrev pub servers_of : Line → ℕ

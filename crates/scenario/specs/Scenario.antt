@@ -6,9 +6,10 @@ use Rattle.scenario.specs.declared.fault.FaultKind.TheVariants as kind
 use Rattle.scenario.specs.declared.fault.ScenarioFault.{ScenarioFault}
 use Rattle.scenario.specs.declared.fault.ReadError.{ReadError}
 use Rattle.scenario.specs.declared.fault.ReadError.TheVariants as errors
+use Rattle.scenario.specs.declared.rules.Rules.{Rules}
 use Rattle.scenario.specs.Words.{lines_of}
 use Rattle.scenario.specs.Past.{has_ended}
-use Rattle.scenario.specs.Faults.{judged}
+use Rattle.scenario.specs.Faults.{line_or_fault}
 
 -- what is wrong where the lines end without `end`
 abbrev pub kind_at_end : List Line → FaultKind
@@ -28,14 +29,14 @@ go_on before more (Err k) = Err (record { line = length before + 1; kind = k })
 go_on before more (Ok l) = more l
 
 -- the lines of a scenario that goes on with these texts, or its first faulty line
-abbrev pub valid_from : ℕ → List Line → List (List ℕ) → Result (List Line) ScenarioFault
-valid_from pool before [] = ended before
-valid_from pool before (text ∷ texts) =
-    go_on before (λ l. valid_from pool (before ++ l ∷ []) texts) (judged pool before text)
+abbrev pub valid_from : Rules → List Line → List (List ℕ) → Result (List Line) ScenarioFault
+valid_from rules before [] = ended before
+valid_from rules before (text ∷ texts) =
+    go_on before (λ l. valid_from rules (before ++ l ∷ []) texts) (line_or_fault rules before text)
 
--- the lines of a scenario's text, or its first faulty line; `pool` is how many listeners there are
-abbrev pub scenario_of : ℕ → List ℕ → Result (List Line) ScenarioFault
-scenario_of pool bytes = valid_from pool [] (lines_of bytes)
+-- the lines of a scenario's text, or its first faulty line
+abbrev pub scenario_of : Rules → List ℕ → Result (List Line) ScenarioFault
+scenario_of rules bytes = valid_from rules [] (lines_of bytes)
 
 -- what `read` answers: the lines, or the fault; want of memory is free
 abbrev pub Reads : {A : Type 0} → (A → List Line) → Result A ReadError → Result (List Line) ScenarioFault → Type 0

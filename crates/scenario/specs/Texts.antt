@@ -8,7 +8,11 @@ use Rattle.set_model.specs.declared.source.Change.{Change}
 use Rattle.set_model.specs.Source.{stamp_of}
 use Rattle.set_model.specs.Stamp.{stamp_text}
 use Rattle.scenario.specs.declared.line.Line.{Line}
-use Rattle.scenario.specs.declared.line.Line.TheVariants as line
+use Rattle.scenario.specs.declared.shape.Shape.{Shape}
+use Rattle.scenario.specs.declared.shape.Shape.TheVariants as shape
+use Rattle.scenario.specs.declared.table.Numbers.{Numbers}
+use Rattle.scenario.specs.declared.table.Numbers.TheVariants as numbers
+use Rattle.scenario.specs.Table.{shape_of, word_of}
 use Rattle.scenario.specs.declared.fault.FaultKind.{FaultKind}
 use Rattle.scenario.specs.declared.fault.FaultKind.TheVariants as kind
 use Rattle.scenario.specs.declared.fault.ScenarioFault.{ScenarioFault}
@@ -29,19 +33,22 @@ abbrev pub rule_text : Bool → List ℕ
 rule_text true = []
 rule_text false = codes " discard newest"
 
+-- each number after a space
+abbrev pub numbers_text : Numbers → List ℕ
+numbers_text numbers.Nothing = []
+numbers_text (numbers.One first) = codes " " ++ decimal first
+numbers_text (numbers.Two first second) = codes " " ++ decimal first ++ codes " " ++ decimal second
+
+abbrev pub shape_text : Shape → List ℕ
+shape_text (shape.Set mode servers) = codes "set " ++ mode_text mode ++ codes " " ++ decimal servers
+shape_text (shape.Items items queue oldest) =
+    codes "items " ++ decimal items ++ codes " queue " ++ decimal queue ++ rule_text oldest
+shape_text (shape.Change change) = change_text change
+shape_text (shape.Plain name said) = word_of name ++ numbers_text said
+
 -- a line without its line feed
 abbrev pub line_text : Line → List ℕ
-line_text (line.Set mode servers) = codes "set " ++ mode_text mode ++ codes " " ++ decimal servers
-line_text (line.Items items queue oldest) =
-    codes "items " ++ decimal items ++ codes " queue " ++ decimal queue ++ rule_text oldest
-line_text (line.Change change) = change_text change
-line_text (line.Feed server count) = codes "feed " ++ decimal server ++ codes " " ++ decimal count
-line_text (line.Take server count) = codes "take " ++ decimal server ++ codes " " ++ decimal count
-line_text (line.Stop server) = codes "stop " ++ decimal server
-line_text (line.Start server) = codes "start " ++ decimal server
-line_text (line.Listen item) = codes "listen " ++ decimal item
-line_text (line.Unlisten id) = codes "unlisten " ++ decimal id
-line_text line.End = codes "end"
+line_text l = shape_text (shape_of l)
 
 -- lines, each with its line feed
 abbrev pub written : List Line → List ℕ

@@ -2,9 +2,11 @@ ghost use Rattle.std.specs.Prelude.{◌≡◌, Some, None, ℕ};
 ghost use Rattle.std.specs.Option.{option_copied};
 ghost use Rattle.scenario.specs.Words.{capped, Finds, words_left};
 ghost use Rattle.scenario.specs.Grammar.{word_at, none_left, name_at, number_at, stamp_at, integer_at};
-ghost use Rattle.scenario.specs.Grammar.{mode_of, mode_at, one_number, two_numbers, newest_at, rule_at};
+ghost use Rattle.scenario.specs.Grammar.{mode_of, mode_at, one_number, newest_at, rule_at};
+ghost use Rattle.scenario.specs.Grammar.{two_numbers, numbers_after, some_numbers, numbers_at, plain_form};
 ghost use Rattle.scenario.specs.Grammar.{set_form, items_form, change_form, form_after, form_by, form_read};
 
+use crate::table::{Name, Numbers};
 use crate::words::{integer_of, number_of, split_word, stamp_of};
 use ua_base::SetMode;
 
@@ -29,34 +31,11 @@ pub enum Form {
         pico: Option<u64>,
         value: i128,
     },
-    /// `feed S K`
-    Feed {
-        server: u64,
-        count: u64,
+    /// Any other line: a word of the table, and its numbers.
+    Plain {
+        name: Name,
+        numbers: Numbers,
     },
-    /// `take S K`
-    Take {
-        server: u64,
-        count: u64,
-    },
-    /// `stop S`
-    Stop {
-        server: u64,
-    },
-    /// `start S`
-    Start {
-        server: u64,
-    },
-    /// `listen I`
-    Listen {
-        item: u64,
-    },
-    /// `unlisten K`
-    Unlisten {
-        id: u64,
-    },
-    /// `end`
-    End,
 }
 
 /// The next word, and what is left after it.
@@ -168,13 +147,39 @@ fn one_number(rest: Option<&[u8]>) -> Option<u64>
     Some(number)
 }
 
-/// Exactly two numbers.
-fn two_numbers(rest: Option<&[u8]>) -> Option<(u64, u64)>
-    ensures { result ≡ two_numbers capped (words_left (option_copied rest.entry)) }
+/// One number, or two where a second follows.
+fn numbers_after(first: u64, rest: Option<&[u8]>) -> Option<Numbers>
+    ensures { result ≡ numbers_after capped first (words_left (option_copied rest.entry)) }
+{
+    match rest {
+        None => Some(Numbers::One(first)),
+        Some(_) => two_numbers(first, rest),
+    }
+}
+
+/// The first number, and exactly one more.
+fn two_numbers(first: u64, rest: Option<&[u8]>) -> Option<Numbers>
+    ensures { result ≡ two_numbers capped first (words_left (option_copied rest.entry)) }
+{
+    let second = one_number(rest)?;
+    Some(Numbers::Two(first, second))
+}
+
+fn some_numbers(rest: Option<&[u8]>) -> Option<Numbers>
+    ensures { result ≡ some_numbers capped (words_left (option_copied rest.entry)) }
 {
     let (first, rest) = next_number(rest)?;
-    let second = one_number(rest)?;
-    Some((first, second))
+    numbers_after(first, rest)
+}
+
+/// Up to two numbers, and nothing else.
+fn numbers(rest: Option<&[u8]>) -> Option<Numbers>
+    ensures { result ≡ numbers_at capped (words_left (option_copied rest.entry)) }
+{
+    match rest {
+        None => Some(Numbers::Nothing),
+        Some(_) => some_numbers(rest),
+    }
 }
 
 fn set_form(rest: Option<&[u8]>) -> Option<Form>
@@ -214,6 +219,14 @@ fn change_form(rest: Option<&[u8]>) -> Option<Form>
     })
 }
 
+fn plain_form(keyword: &[u8], rest: Option<&[u8]>) -> Option<Form>
+    ensures { result ≡ plain_form capped keyword.now (words_left (option_copied rest.entry)) }
+{
+    let name = Name::of(keyword)?;
+    let numbers = numbers(rest)?;
+    Some(Form::Plain { name, numbers })
+}
+
 /// The form after its first word.
 fn form_after(keyword: &[u8], rest: Option<&[u8]>) -> Option<Form>
     ensures { result ≡ form_after capped keyword.now (words_left (option_copied rest.entry)) }
@@ -224,29 +237,8 @@ fn form_after(keyword: &[u8], rest: Option<&[u8]>) -> Option<Form>
         items_form(rest)
     } else if keyword == b"change".as_slice() {
         change_form(rest)
-    } else if keyword == b"feed".as_slice() {
-        let (server, count) = two_numbers(rest)?;
-        Some(Form::Feed { server, count })
-    } else if keyword == b"take".as_slice() {
-        let (server, count) = two_numbers(rest)?;
-        Some(Form::Take { server, count })
-    } else if keyword == b"stop".as_slice() {
-        let server = one_number(rest)?;
-        Some(Form::Stop { server })
-    } else if keyword == b"start".as_slice() {
-        let server = one_number(rest)?;
-        Some(Form::Start { server })
-    } else if keyword == b"listen".as_slice() {
-        let item = one_number(rest)?;
-        Some(Form::Listen { item })
-    } else if keyword == b"unlisten".as_slice() {
-        let id = one_number(rest)?;
-        Some(Form::Unlisten { id })
-    } else if keyword == b"end".as_slice() {
-        last(rest)?;
-        Some(Form::End)
     } else {
-        None
+        plain_form(keyword, rest)
     }
 }
 

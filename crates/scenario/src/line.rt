@@ -1,5 +1,4 @@
 use set_model::Change;
-use std::fmt;
 use ua_base::SetMode;
 
 /// One line of a scenario.
@@ -16,85 +15,30 @@ pub enum Line {
     Feed { server: u8, count: u32 },
     /// The client takes up to `count` entries of each queue of the server.
     Take { server: u8, count: u32 },
+    /// So many milliseconds pass.
+    Tick { ms: u32 },
+    /// So many rounds: in each, links are made and closed as the client wishes, and what is in flight arrives.
+    Pass { rounds: u32 },
+    /// From now on bytes arrive in pieces of at most so many.
+    Piece { bytes: u32 },
+    /// The server's service level (OPC 10000-4, 6.6.2).
+    Level { server: u8, level: u8 },
     /// The server stops.
     Stop { server: u8 },
     /// The server starts again, with one more in its boot number.
     Start { server: u8 },
+    /// The link between the client and the server ends, and what is in flight on it is lost.
+    Cut { server: u8 },
+    /// The link ends: what is in flight to the server still arrives, and what is in flight to the client is lost.
+    Half { server: u8 },
+    /// Rounds leave the server out until it is freed. The end of a link or of the server's life doesn't free it.
+    Hold { server: u8 },
+    /// Rounds take the server in again.
+    Free { server: u8 },
     /// The next listener of the pool listens to the item.
     Listen { item: u8 },
     /// The listener of the `id`-th `listen` line no longer listens.
     Unlisten { id: u8 },
     /// The last line.
     End,
-}
-
-/// Which entry a full queue discards, where it isn't the oldest.
-#[derive(Clone, Copy)]
-struct RuleWords(bool);
-
-impl fmt::Display for RuleWords {
-    ghost use Rattle.std.specs.Prelude.{Some};
-    ghost use Rattle.scenario.specs.Texts.{rule_text};
-
-    ghost output = { λ rule. Some (rule_text rule.0) };
-
-    fn fmt<W: fmt::Write>(&self, f: &mut fmt::Formatter<W>) -> fmt::Result {
-        f.write_str(if self.0 { "" } else { " discard newest" })
-    }
-}
-
-/// A mode by its word.
-#[derive(Clone, Copy)]
-struct ModeWord(SetMode);
-
-impl fmt::Display for ModeWord {
-    ghost use Rattle.std.specs.Prelude.{Some};
-    ghost use Rattle.scenario.specs.Texts.{mode_text};
-
-    ghost output = { λ word. Some (mode_text word.0) };
-
-    fn fmt<W: fmt::Write>(&self, f: &mut fmt::Formatter<W>) -> fmt::Result {
-        f.write_str(match self.0 {
-            SetMode::Direct => "direct",
-            SetMode::Hot => "hot",
-            SetMode::Warm => "warm",
-            SetMode::Cold => "cold",
-        })
-    }
-}
-
-impl fmt::Display for Line {
-    ghost use Rattle.std.specs.Prelude.{Some};
-    ghost use Rattle.scenario.specs.Texts.{line_text};
-
-    ghost output = { λ line. Some (line_text line) };
-
-    fn fmt<W: fmt::Write>(&self, f: &mut fmt::Formatter<W>) -> fmt::Result {
-        match self {
-            Line::Set { mode, servers } => {
-                let word = ModeWord(*mode);
-                write!(f, "set {word} {servers}")
-            }
-            Line::Items {
-                items,
-                queue,
-                oldest,
-            } => {
-                let rule = RuleWords(*oldest);
-                write!(f, "items {items} queue {queue}{rule}")
-            }
-            Line::Change { change } => {
-                let Change { item, value, .. } = *change;
-                let stamp = change.stamp();
-                write!(f, "change {item} {stamp} {value}")
-            }
-            Line::Feed { server, count } => write!(f, "feed {server} {count}"),
-            Line::Take { server, count } => write!(f, "take {server} {count}"),
-            Line::Stop { server } => write!(f, "stop {server}"),
-            Line::Start { server } => write!(f, "start {server}"),
-            Line::Listen { item } => write!(f, "listen {item}"),
-            Line::Unlisten { id } => write!(f, "unlisten {id}"),
-            Line::End => f.write_str("end"),
-        }
-    }
 }

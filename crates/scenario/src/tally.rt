@@ -2,6 +2,7 @@ ghost use Rattle.std.specs.Prelude.{◌≡◌, ◌≤◌};
 ghost use Rattle.scenario.specs.Reading.{blank_tally, fresh, HasRoom, life_in, tally_after, with_life};
 
 use crate::line::Line;
+use ua_base::SetMode;
 
 /// The most servers of a set.
 pub const MOST_SERVERS: usize = 8;
@@ -18,8 +19,11 @@ pub struct Life {
 /// What is recalled of the lines before.
 #[derive(Clone, Copy, Debug, PartialEq, Eq)]
 pub struct Tally {
+    /// The set is in direct mode.
+    pub direct: bool,
     pub servers: u8,
     pub items: u8,
+    pub changes: u32,
     pub lives: [Life; MOST_SERVERS],
     pub listens: u8,
     pub ended: bool,
@@ -31,8 +35,10 @@ impl Tally {
         ensures { result ≡ blank_tally }
     {
         Tally {
+            direct: false,
             servers: 0,
             items: 0,
+            changes: 0,
             lives: [Life {
                 running: true,
                 boot: 1,
@@ -65,8 +71,12 @@ impl Tally {
         ensures { self.new ≡ tally_after self.old line }
     {
         match line {
-            Line::Set { servers, .. } => self.servers = servers,
+            Line::Set { mode, servers } => {
+                self.direct = mode == SetMode::Direct;
+                self.servers = servers;
+            }
             Line::Items { items, .. } => self.items = items,
+            Line::Change { .. } => self.changes += 1,
             Line::Stop { server } => {
                 let boot = self.life(server).boot;
                 self.set_life(
@@ -89,8 +99,7 @@ impl Tally {
             }
             Line::Listen { .. } => self.listens += 1,
             Line::End => self.ended = true,
-            Line::Change { .. } | Line::Feed { .. } | Line::Take { .. } | Line::Unlisten { .. } =>
-                {}
+            _ => {}
         }
     }
 }

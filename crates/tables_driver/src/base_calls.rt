@@ -1,7 +1,6 @@
 //! Durations, sequence numbers, and the numbers of modes.
 
-use crate::stop::Stop;
-use crate::words::{number, put, put_number};
+use rows::{Stop, number, put, put_number};
 use std::alloc::Global;
 use ua_base::{
     LAST_CHUNK, MOST_MS, Mode, Timestamps, bits_of_ms, ms_of_bits, next_chunk, next_message,

@@ -1,8 +1,7 @@
 //! The messages that a subscription keeps; each message is a number here.
 
-use crate::stop::Stop;
-use crate::words::{number, put, put_number};
 use retransmit::Kept;
+use rows::{Stop, number, put, put_number};
 use std::alloc::Global;
 use ua_base::OutOfMemory;
 
@@ -19,6 +18,11 @@ impl KeptTable {
     pub(crate) fn new(alloc: Global) -> Result<KeptTable, Stop> {
         let kept = kept(alloc)?;
         Ok(KeptTable { kept })
+    }
+
+    fn begin(&mut self, alloc: Global) -> Result<(), Stop> {
+        self.kept = kept(alloc)?;
+        Ok(())
     }
 
     fn send(&mut self, number: u32, message: u64) -> Result<(), Stop> {
@@ -50,12 +54,19 @@ impl KeptTable {
 
     /// Puts the available numbers behind these.
     fn put_numbers(&self, alloc: Global, to: &mut String, before: &[&str]) -> Result<(), Stop> {
-        let mut numbers = Vec::new(alloc);
-        for word in before {
-            numbers.push(number::<u32>(word)?)?;
-        }
+        let mut numbers = numbers_of(alloc, before)?;
         self.kept.numbers(&mut numbers)?;
         put_list(alloc, to, &numbers)
+    }
+
+    /// Makes a call that answers nothing.
+    fn make(&mut self, alloc: Global, words: &[&str]) -> Result<(), Stop> {
+        match words {
+            ["new"] => self.begin(alloc),
+            ["send", sent, message] => self.send(number(sent)?, number(message)?),
+            ["sends", first, last] => self.send_each(number(first)?, number(last)?),
+            _ => Err(Stop::BadLine),
+        }
     }
 
     /// Answers a call of these words.
@@ -66,16 +77,23 @@ impl KeptTable {
         to: &mut String,
     ) -> Result<(), Stop> {
         match words {
-            ["new"] => self.kept = kept(alloc)?,
-            ["send", sent, message] => self.send(number(sent)?, number(message)?)?,
-            ["sends", first, last] => self.send_each(number(first)?, number(last)?)?,
-            ["ack", sent] => return self.put_ack(alloc, to, number(sent)?),
-            ["get", sent] => return self.put_message(alloc, to, number(sent)?),
-            ["numbers", before @ ..] => return self.put_numbers(alloc, to, before),
-            _ => return Err(Stop::BadLine),
+            ["ack", sent] => self.put_ack(alloc, to, number(sent)?),
+            ["get", sent] => self.put_message(alloc, to, number(sent)?),
+            ["numbers", before @ ..] => self.put_numbers(alloc, to, before),
+            _ => {
+                self.make(alloc, words)?;
+                put(to, "done")
+            }
         }
-        put(to, "done")
     }
+}
+
+fn numbers_of(alloc: Global, words: &[&str]) -> Result<Vec<u32>, Stop> {
+    let mut numbers = Vec::new(alloc);
+    for word in words {
+        numbers.push(number::<u32>(word)?)?;
+    }
+    Ok(numbers)
 }
 
 /// Appends numbers, with a space between; none are `-`.

@@ -3,126 +3,20 @@
 ghost use Rattle.std.specs.Prelude.{◌≡◌, ◌≤◌, length, true};
 ghost use Rattle.delivery_log.specs.Log.{Covers, CoversServer};
 
-use crate::stop::Stop;
-use crate::words::{bytes, number, put, put_lines, some_stamp, stamp, truth};
+use crate::log_lines::{arrived, joint, line, turn};
+use crate::words::some_stamp;
 use delivery_log::{Joint, Log, Turn, judge};
-use set_model::{Arrived, GapCause, LogLine, Seen, UaRaw, report_of, write_line};
+use rows::{Stop, number, put, put_lines, truth};
+use set_model::{Arrived, report_of, write_line};
 use std::alloc::Global;
-
-fn cause(word: &str) -> Result<GapCause, Stop> {
-    match word {
-        "late" => Ok(GapCause::Late),
-        "warm" => Ok(GapCause::Warm),
-        "cold" => Ok(GapCause::Cold),
-        "lost" => Ok(GapCause::Lost),
-        "notime" => Ok(GapCause::NoTime),
-        "overflow" => Ok(GapCause::Overflow),
-        _ => Err(Stop::BadLine),
-    }
-}
-
-/// A joint: `joined`, `held`, or the cause for which it is open.
-fn joint(word: &str) -> Result<Joint, Stop> {
-    match word {
-        "joined" => Ok(Joint::Joined),
-        "held" => Ok(Joint::Held),
-        _ => Ok(Joint::Open(cause(word)?)),
-    }
-}
-
-/// What befalls a joint.
-fn turn(words: &[&str]) -> Result<Turn, Stop> {
-    match words {
-        ["become", after] => Ok(Turn::Become(joint(after)?)),
-        ["loosen", why] => Ok(Turn::Loosen(cause(why)?)),
-        ["confirm"] => Ok(Turn::Confirm),
-        _ => Err(Stop::BadLine),
-    }
-}
-
-/// A value: a whole number, or `x` and hexadecimal digits.
-fn seen(alloc: Global, word: &str) -> Result<Seen, Stop> {
-    match word.strip_prefix('x') {
-        Some(digits) => Ok(Seen::Raw(UaRaw::new(bytes(alloc, digits)?))),
-        None => Ok(Seen::Whole(number(word)?)),
-    }
-}
-
-/// A status in hexadecimal digits.
-fn status(word: &str) -> Result<u32, Stop> {
-    match u32::from_str_radix(word, 16) {
-        Ok(status) => Ok(status),
-        Err(_) => Err(Stop::BadLine),
-    }
-}
-
-fn arrived(alloc: Global, words: [&str; 3]) -> Result<Arrived, Stop> {
-    let [time, value, bits] = words;
-    let time = some_stamp(time)?;
-    let status = status(bits)?;
-    let value = seen(alloc, value)?;
-    Ok(Arrived {
-        time,
-        value,
-        status,
-    })
-}
-
-/// A data line.
-fn data(alloc: Global, words: [&str; 4]) -> Result<LogLine, Stop> {
-    let [item, at, value, bits] = words;
-    let item = number(item)?;
-    let at = stamp(at)?;
-    let status = status(bits)?;
-    let value = seen(alloc, value)?;
-    Ok(LogLine::Delivered {
-        item,
-        time: at.time,
-        pico: at.pico,
-        value,
-        status,
-    })
-}
-
-/// A line of the log.
-fn line(alloc: Global, words: &[&str]) -> Result<LogLine, Stop> {
-    match words {
-        ["data", item, at, value, bits] => data(alloc, [item, at, value, bits]),
-        ["gap", item, why] => Ok(LogLine::Gap {
-            item: number(item)?,
-            cause: cause(why)?,
-        }),
-        ["switch", from, to] => Ok(LogLine::Switch {
-            from: number(from)?,
-            to: number(to)?,
-        }),
-        ["ready", server] => Ok(LogLine::Ready {
-            server: number(server)?,
-        }),
-        ["lost", server] => Ok(LogLine::Lost {
-            server: number(server)?,
-        }),
-        ["unsupported", server] => Ok(LogLine::Unsupported {
-            server: number(server)?,
-        }),
-        ["heard", listener, changes, gaps] => Ok(LogLine::Heard {
-            listener: number(listener)?,
-            changes: number(changes)?,
-            gaps: number(gaps)?,
-        }),
-        _ => Err(Stop::BadLine),
-    }
-}
 
 /// Answers the rule: the verdict on an entry, and the joint after it.
 pub(crate) fn answer_judge(alloc: Global, words: [&str; 4], to: &mut String) -> Result<(), Stop> {
     let [last, before, time, marked] = words;
-    let (verdict, after) = judge(
-        some_stamp(last)?,
-        joint(before)?,
-        some_stamp(time)?,
-        truth(marked)?,
-    );
+    let last = some_stamp(last)?;
+    let before = joint(before)?;
+    let time = some_stamp(time)?;
+    let (verdict, after) = judge(last, before, time, truth(marked)?);
     put(to, format!(in alloc; "{verdict:?} {after:?}")?.as_str())
 }
 
@@ -212,8 +106,25 @@ impl Journal {
         put(to, format!(in alloc; "{joint:?}")?.as_str())
     }
 
-    fn note(&mut self, line: LogLine) -> Result<(), Stop> {
-        self.log.note(line)?;
+    fn begin(&mut self, alloc: Global, servers: u8, items: u8) -> Result<(), Stop> {
+        self.log = Log::new(alloc, servers, items)?;
+        Ok(())
+    }
+
+    fn enter_words(
+        &mut self,
+        alloc: Global,
+        place: [&str; 2],
+        entry: [&str; 3],
+    ) -> Result<(), Stop> {
+        let [server, item] = place;
+        let server = number(server)?;
+        let item = number(item)?;
+        self.enter(alloc, server, item, &arrived(alloc, entry)?)
+    }
+
+    fn note(&mut self, alloc: Global, words: &[&str]) -> Result<(), Stop> {
+        self.log.note(line(alloc, words)?)?;
         Ok(())
     }
 
@@ -226,8 +137,26 @@ impl Journal {
     }
 
     fn put_report(&self, alloc: Global, to: &mut String) -> Result<(), Stop> {
-        let text = report_of(alloc, self.log.lines())?;
-        put_lines(alloc, to, &text)
+        put_lines(alloc, to, &report_of(alloc, self.log.lines())?)
+    }
+
+    /// Makes a call that answers nothing.
+    fn make(&mut self, alloc: Global, words: &[&str]) -> Result<(), Stop> {
+        match words {
+            ["new", servers, items] => self.begin(alloc, number(servers)?, number(items)?),
+            ["enter", server, item, time, value, bits] => {
+                self.enter_words(alloc, [server, item], [time, value, bits])
+            }
+            ["set_joint", server, item, word] => {
+                self.set_joint(number(server)?, number(item)?, joint(word)?)
+            }
+            ["turn", server, item, how @ ..] => {
+                self.turn(number(server)?, number(item)?, turn(how)?)
+            }
+            ["turn_all", server, how @ ..] => self.turn_all(number(server)?, turn(how)?),
+            ["note", words @ ..] => self.note(alloc, words),
+            _ => Err(Stop::BadLine),
+        }
     }
 
     /// Answers a call of these words.
@@ -238,30 +167,14 @@ impl Journal {
         to: &mut String,
     ) -> Result<(), Stop> {
         match words {
-            ["new", servers, items] => {
-                *self = Journal::new(alloc, number(servers)?, number(items)?)?
+            ["last", item] => self.put_last(alloc, number(item)?, to),
+            ["joint", server, item] => self.put_joint(alloc, number(server)?, number(item)?, to),
+            ["lines"] => self.put_log(alloc, to),
+            ["report"] => self.put_report(alloc, to),
+            _ => {
+                self.make(alloc, words)?;
+                put(to, "done")
             }
-            ["enter", server, item, time, value, bits] => {
-                let (server, item) = (number(server)?, number(item)?);
-                let entry = arrived(alloc, [time, value, bits])?;
-                self.enter(alloc, server, item, &entry)?
-            }
-            ["set_joint", server, item, word] => {
-                self.set_joint(number(server)?, number(item)?, joint(word)?)?
-            }
-            ["turn", server, item, how @ ..] => {
-                self.turn(number(server)?, number(item)?, turn(how)?)?
-            }
-            ["turn_all", server, how @ ..] => self.turn_all(number(server)?, turn(how)?)?,
-            ["last", item] => return self.put_last(alloc, number(item)?, to),
-            ["joint", server, item] => {
-                return self.put_joint(alloc, number(server)?, number(item)?, to);
-            }
-            ["note", words @ ..] => self.note(line(alloc, words)?)?,
-            ["lines"] => return self.put_log(alloc, to),
-            ["report"] => return self.put_report(alloc, to),
-            _ => return Err(Stop::BadLine),
         }
-        put(to, "done")
     }
 }

@@ -1,8 +1,9 @@
 //! The nodes of a server.
 
-use crate::stop::Stop;
-use crate::words::{change, number, put, put_bytes, put_text, text};
+use crate::words::{change, put_digits, put_text, text};
 use redundancy_nodes::{CurrentChanges, Member, Members, NodeFault, Nodes, class_of};
+use rows::{Stop, number, put, put_debug};
+use set_model::Change;
 use std::alloc::Global;
 use std::mem;
 use ua_base::OutOfMemory;
@@ -62,7 +63,7 @@ fn put_fields(alloc: Global, value: &DataValue, to: &mut String) -> Result<(), S
 fn put_written(alloc: Global, value: &DataValue, to: &mut String) -> Result<(), Stop> {
     let mut bytes = Vec::new(alloc);
     write_data_value(value, &mut bytes)?;
-    put_bytes(alloc, to, &bytes)
+    put_digits(alloc, to, &bytes)
 }
 
 fn put_read(
@@ -86,6 +87,11 @@ fn form_of(word: &str) -> Result<Form, Stop> {
     }
 }
 
+fn name_of(alloc: Global, namespace: u16, name: &str) -> Result<NodeId, Stop> {
+    let id = text(alloc, name)?;
+    Ok(NodeId::Text { namespace, id })
+}
+
 /// The id of a kind, in a namespace: a number, a name, the Guid of zeros, or the ByteString that isn't there.
 fn id_of(alloc: Global, kind: &str, namespace: u16, name: &str) -> Result<NodeId, Stop> {
     match kind {
@@ -93,10 +99,7 @@ fn id_of(alloc: Global, kind: &str, namespace: u16, name: &str) -> Result<NodeId
             namespace,
             id: number(name)?,
         }),
-        "name" => Ok(NodeId::Text {
-            namespace,
-            id: text(alloc, name)?,
-        }),
+        "name" => name_of(alloc, namespace, name),
         "guid" => Ok(NodeId::Guid {
             namespace,
             id: Uuid::nil(),
@@ -121,12 +124,17 @@ struct Numbers {
 
 fn numbers_of(words: [&str; 5]) -> Result<Numbers, Stop> {
     let [support, level, start, now, items] = words;
+    let support = number(support)?;
+    let level = number(level)?;
+    let start = number(start)?;
+    let now = number(now)?;
+    let items = number(items)?;
     Ok(Numbers {
-        support: number(support)?,
-        level: number(level)?,
-        start: number(start)?,
-        now: number(now)?,
-        items: number(items)?,
+        support,
+        level,
+        start,
+        now,
+        items,
     })
 }
 
@@ -166,28 +174,21 @@ impl NodeTable {
     }
 
     /// Makes the nodes anew, with the numbers of support, level, start, now and items.
-    fn make(&mut self, alloc: Global, uri: &str, words: [&str; 5]) -> Result<(), Stop> {
+    fn begin(&mut self, alloc: Global, uri: &str, words: [&str; 5]) -> Result<(), Stop> {
         let numbers = numbers_of(words)?;
         self.nodes = nodes_of(alloc, text(alloc, uri)?, numbers);
         Ok(())
     }
 
     fn add_member(&mut self, alloc: Global, uri: &str, url: &str) -> Result<(), Stop> {
-        let member = Member {
-            uri: text(alloc, uri)?,
-            url: text(alloc, url)?,
-        };
         let none = Members::new(Vec::new(alloc));
-        let mut members = mem::replace(&mut self.nodes.members, none).into_vec();
-        members.push(member)?;
-        self.nodes.members = Members::new(members);
+        let members = mem::replace(&mut self.nodes.members, none).into_vec();
+        self.nodes.members = Members::new(with_member(alloc, members, uri, url)?);
         Ok(())
     }
 
     /// Adds a change behind all others.
-    fn add_change(&mut self, alloc: Global, words: [&str; 3]) -> Result<(), Stop> {
-        let [item, at, value] = words;
-        let change = change(item, at, value)?;
+    fn add_change(&mut self, alloc: Global, change: Change) -> Result<(), Stop> {
         let none = CurrentChanges::new(Vec::new(alloc));
         let mut changes = mem::replace(&mut self.nodes.current, none).into_vec();
         changes.push(change)?;
@@ -195,9 +196,13 @@ impl NodeTable {
         Ok(())
     }
 
+    fn put_change(&mut self, change: Change) -> Result<(), Stop> {
+        self.nodes.current.put(change)?;
+        Ok(())
+    }
+
     fn put_changes(&self, alloc: Global, to: &mut String) -> Result<(), Stop> {
-        let changes = self.nodes.current.as_slice();
-        put(to, format!(in alloc; "{changes:?}")?.as_str())
+        put_debug(alloc, "", &self.nodes.current.as_slice(), to)
     }
 
     /// Puts copies of the members.
@@ -208,6 +213,41 @@ impl NodeTable {
         Ok(())
     }
 
+    /// Reads an attribute of a node.
+    fn put_node(
+        &self,
+        alloc: Global,
+        form: Form,
+        id: &NodeId,
+        attribute: u32,
+        to: &mut String,
+    ) -> Result<(), Stop> {
+        put_read(alloc, form, &self.nodes.read_node(alloc, id, attribute), to)
+    }
+
+    /// Reads what the words say: how the value is told, the id's kind, namespace and name, and the attribute.
+    fn read(&self, alloc: Global, words: [&str; 5], to: &mut String) -> Result<(), Stop> {
+        let [verb, kind, namespace, name, attribute] = words;
+        let form = form_of(verb)?;
+        let namespace = number(namespace)?;
+        let attribute = number(attribute)?;
+        let id = id_of(alloc, kind, namespace, name)?;
+        self.put_node(alloc, form, &id, attribute, to)
+    }
+
+    /// Makes a call that answers nothing.
+    fn make(&mut self, alloc: Global, words: &[&str]) -> Result<(), Stop> {
+        match words {
+            ["new", uri, support, level, start, now, items] => {
+                self.begin(alloc, uri, [support, level, start, now, items])
+            }
+            ["member", uri, url] => self.add_member(alloc, uri, url),
+            ["change", item, at, value] => self.add_change(alloc, change(item, at, value)?),
+            ["put", item, at, value] => self.put_change(change(item, at, value)?),
+            _ => Err(Stop::BadLine),
+        }
+    }
+
     /// Answers a call of these words.
     pub(crate) fn answer(
         &mut self,
@@ -216,28 +256,35 @@ impl NodeTable {
         to: &mut String,
     ) -> Result<(), Stop> {
         match words {
-            ["new", uri, support, level, start, now, items] => {
-                self.make(alloc, uri, [support, level, start, now, items])?
-            }
-            ["member", uri, url] => self.add_member(alloc, uri, url)?,
-            ["change", item, at, value] => self.add_change(alloc, [item, at, value])?,
-            ["put", item, at, value] => self.nodes.current.put(change(item, at, value)?)?,
-            ["changes"] => return self.put_changes(alloc, to),
-            ["members"] => return self.put_members(alloc, to),
+            ["changes"] => self.put_changes(alloc, to),
+            ["members"] => self.put_members(alloc, to),
             [verb, kind, namespace, name, attribute] => {
-                let id = id_of(alloc, kind, number(namespace)?, name)?;
-                let attribute = number(attribute)?;
-                return put_read(
-                    alloc,
-                    form_of(verb)?,
-                    &self.nodes.read_node(alloc, &id, attribute),
-                    to,
-                );
+                self.read(alloc, [verb, kind, namespace, name, attribute], to)
             }
-            _ => return Err(Stop::BadLine),
+            _ => {
+                self.make(alloc, words)?;
+                put(to, "done")
+            }
         }
-        put(to, "done")
     }
+}
+
+/// A member of these words.
+fn member_of(alloc: Global, uri: &str, url: &str) -> Result<Member, Stop> {
+    let uri = text(alloc, uri)?;
+    let url = text(alloc, url)?;
+    Ok(Member { uri, url })
+}
+
+/// The members, and one more of these words.
+fn with_member(
+    alloc: Global,
+    mut members: Vec<Member>,
+    uri: &str,
+    url: &str,
+) -> Result<Vec<Member>, Stop> {
+    members.push(member_of(alloc, uri, url)?)?;
+    Ok(members)
 }
 
 fn put_member(
@@ -262,5 +309,5 @@ fn put_uris(to: &mut String, member: &Member) -> Result<(), Stop> {
 /// Answers the class of a level.
 pub(crate) fn answer_class(alloc: Global, level: &str, to: &mut String) -> Result<(), Stop> {
     let class = class_of(number(level)?);
-    put(to, format!(in alloc; "{class:?}")?.as_str())
+    put_debug(alloc, "", &class, to)
 }

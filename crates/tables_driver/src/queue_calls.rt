@@ -1,8 +1,8 @@
 //! The queue of an item; all its changes are of item 1.
 
-use crate::stop::Stop;
-use crate::words::{change, number, put, put_number, put_truth};
+use crate::words::change;
 use item_queue::{Entry, ItemQueue};
+use rows::{Stop, number, put, put_number, put_truth};
 use std::alloc::Global;
 
 #[derive(Drop)]
@@ -47,16 +47,30 @@ impl QueueTable {
         Ok(QueueTable { queue })
     }
 
+    fn begin(&mut self, alloc: Global, size: u32, which: &str) -> Result<(), Stop> {
+        self.queue = queue(alloc, size, which)?;
+        Ok(())
+    }
+
     fn push(&mut self, at: &str, value: &str) -> Result<(), Stop> {
         self.queue.push(change("1", at, value)?);
         Ok(())
     }
 
+    fn clear(&mut self) -> Result<(), Stop> {
+        self.queue.clear();
+        Ok(())
+    }
+
+    /// Pushes a value at the time that is the value.
+    fn push_at(&mut self, value: &str) -> Result<(), Stop> {
+        self.push(value, value)
+    }
+
     /// Pushes each of these values, at the time that is the value.
     fn push_each(&mut self, alloc: Global, first: u32, last: u32) -> Result<(), Stop> {
         for value in first..=last {
-            let word = format!(in alloc; "{value}")?;
-            self.push(word.as_str(), word.as_str())?;
+            self.push_at(&format!(in alloc; "{value}")?)?;
         }
         Ok(())
     }
@@ -74,6 +88,17 @@ impl QueueTable {
         put_entries(alloc, to, &taken)
     }
 
+    /// Makes a call that answers nothing.
+    fn make(&mut self, alloc: Global, words: &[&str]) -> Result<(), Stop> {
+        match words {
+            ["new", size, which] => self.begin(alloc, number(size)?, which),
+            ["push", at, value] => self.push(at, value),
+            ["pushes", first, last] => self.push_each(alloc, number(first)?, number(last)?),
+            ["clear"] => self.clear(),
+            _ => Err(Stop::BadLine),
+        }
+    }
+
     /// Answers a call of these words.
     pub(crate) fn answer(
         &mut self,
@@ -82,17 +107,15 @@ impl QueueTable {
         to: &mut String,
     ) -> Result<(), Stop> {
         match words {
-            ["new", size, which] => self.queue = queue(alloc, number(size)?, which)?,
-            ["push", at, value] => self.push(at, value)?,
-            ["pushes", first, last] => self.push_each(alloc, number(first)?, number(last)?)?,
-            ["clear"] => self.queue.clear(),
-            ["take_one"] => return self.take_one(alloc, to),
-            ["take", most] => return self.take(alloc, number(most)?, to),
-            ["len"] => return put_number(alloc, to, self.queue.len() as u64),
-            ["size"] => return put_number(alloc, to, self.queue.size() as u64),
-            ["is_empty"] => return put_truth(to, self.queue.is_empty()),
-            _ => return Err(Stop::BadLine),
+            ["take_one"] => self.take_one(alloc, to),
+            ["take", most] => self.take(alloc, number(most)?, to),
+            ["len"] => put_number(alloc, to, self.queue.len() as u64),
+            ["size"] => put_number(alloc, to, self.queue.size() as u64),
+            ["is_empty"] => put_truth(to, self.queue.is_empty()),
+            _ => {
+                self.make(alloc, words)?;
+                put(to, "done")
+            }
         }
-        put(to, "done")
     }
 }

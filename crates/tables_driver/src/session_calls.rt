@@ -1,7 +1,7 @@
 //! The sessions of a server.
 
-use crate::stop::Stop;
-use crate::words::{byte_string, number, put, put_bytes, put_number, put_some, put_truth, text};
+use crate::words::{byte_string, put_digits, put_some, text};
+use rows::{Stop, number, put, put_number, put_truth};
 use sessions::{AckResults, Parked, SessionFault, Sessions, token};
 use std::alloc::Global;
 use ua_values::UaBytes;
@@ -43,6 +43,13 @@ fn publish(alloc: Global, handle: u32) -> Result<Parked, Stop> {
     })
 }
 
+fn put_results(alloc: Global, to: &mut String, results: &[u32]) -> Result<(), Stop> {
+    for result in results {
+        put(to, format!(in alloc; " {result}")?.as_str())?;
+    }
+    Ok(())
+}
+
 fn put_publish(alloc: Global, to: &mut String, publish: &Parked) -> Result<(), Stop> {
     let Parked {
         request,
@@ -53,10 +60,7 @@ fn put_publish(alloc: Global, to: &mut String, publish: &Parked) -> Result<(), S
         to,
         format!(in alloc; "request {request} handle {handle} results")?.as_str(),
     )?;
-    for result in results.as_slice() {
-        put(to, format!(in alloc; " {result}")?.as_str())?;
-    }
-    Ok(())
+    put_results(alloc, to, results.as_slice())
 }
 
 fn put_parked(alloc: Global, to: &mut String, parked: &Option<Parked>) -> Result<(), Stop> {
@@ -67,7 +71,26 @@ fn put_parked(alloc: Global, to: &mut String, parked: &Option<Parked>) -> Result
 }
 
 fn put_token(alloc: Global, to: &mut String, boot: u16, counter: u32) -> Result<(), Stop> {
-    put_bytes(alloc, to, &token(boot, counter))
+    put_digits(alloc, to, &token(boot, counter))
+}
+
+/// What is asked of a session that a token names.
+#[derive(Clone, Copy)]
+enum Request {
+    Activate,
+    Check,
+    Bound,
+}
+
+impl Request {
+    fn of(word: &str) -> Result<Request, Stop> {
+        match word {
+            "activate" => Ok(Request::Activate),
+            "check" => Ok(Request::Check),
+            "bound" => Ok(Request::Bound),
+            _ => Err(Stop::BadLine),
+        }
+    }
 }
 
 impl SessionTable {
@@ -78,23 +101,29 @@ impl SessionTable {
         }
     }
 
-    /// The table of a server that gave so many sessions before.
-    fn after(alloc: Global, boot: u16, last: u32) -> SessionTable {
-        SessionTable {
-            boot,
-            sessions: Sessions::after(alloc, boot, last),
-        }
+    /// The table of the next life of the server.
+    fn begin(&mut self, alloc: Global, boot: u16) {
+        self.sessions = Sessions::new(alloc, boot);
+        self.boot = boot;
+    }
+
+    /// The table of a life that gave so many sessions before.
+    fn go_on(&mut self, alloc: Global, boot: u16, last: u32) {
+        self.boot = boot;
+        self.sessions = Sessions::after(alloc, boot, last);
     }
 
     /// The token of a session of this life.
-    fn token(&self, alloc: Global, counter: &str) -> Result<UaBytes, Stop> {
-        let bytes = token(self.boot, number(counter)?);
-        Ok(UaBytes::new(Vec::from_slice(alloc, &bytes)?))
+    fn token(&self, alloc: Global, counter: u32) -> Result<UaBytes, Stop> {
+        let bytes = Vec::from_slice(alloc, &token(self.boot, counter))?;
+        Ok(UaBytes::new(bytes))
     }
 
     fn create(&mut self, alloc: Global, words: [&str; 4], to: &mut String) -> Result<(), Stop> {
         let [conn, timeout, now, uri] = words;
-        let (conn, timeout, now) = (number(conn)?, number(timeout)?, number(now)?);
+        let conn = number(conn)?;
+        let timeout = number(timeout)?;
+        let now = number(now)?;
         let uri = text(alloc, uri)?;
         let answer = self.sessions.create(alloc, conn, uri, timeout, now);
         put_counter(alloc, to, answer)
@@ -107,12 +136,15 @@ impl SessionTable {
         handle: u32,
         to: &mut String,
     ) -> Result<(), Stop> {
-        let publish = publish(alloc, handle)?;
         if self.sessions.conn(session).is_none() {
             return put(to, "not bound");
         }
-        let out = self.sessions.park(session, publish)?;
+        let out = self.sessions.park(session, publish(alloc, handle)?)?;
         put_parked(alloc, to, &out)
+    }
+
+    fn unpark(&mut self, alloc: Global, session: u32, to: &mut String) -> Result<(), Stop> {
+        put_parked(alloc, to, &self.sessions.unpark(session))
     }
 
     fn own(&mut self, alloc: Global, id: u32, session: u32, to: &mut String) -> Result<(), Stop> {
@@ -142,21 +174,34 @@ impl SessionTable {
         }
     }
 
-    /// Answers what names a session by its token or counter, on a connection at an age.
+    /// Asks this of the session that the token names, on a connection at an age.
     fn request(
         &mut self,
-        alloc: Global,
-        call: &str,
+        request: Request,
         token: &UaBytes,
         conn: u32,
         now: u64,
-    ) -> Result<Result<u32, SessionFault>, Stop> {
-        match call {
-            "activate" => Ok(self.sessions.activate(token, conn, now)),
-            "check" => Ok(with_fault(self.sessions.check(token, conn, now))),
-            "bound" => Ok(with_fault(self.sessions.bound(token, conn, now))),
-            _ => Err(Stop::BadLine),
+    ) -> Result<u32, SessionFault> {
+        match request {
+            Request::Activate => self.sessions.activate(token, conn, now),
+            Request::Check => with_fault(self.sessions.check(token, conn, now)),
+            Request::Bound => with_fault(self.sessions.bound(token, conn, now)),
         }
+    }
+
+    /// Answers what these words ask of the session that the token names.
+    fn put_request(
+        &mut self,
+        alloc: Global,
+        words: [&str; 3],
+        token: &UaBytes,
+        to: &mut String,
+    ) -> Result<(), Stop> {
+        let [request, conn, now] = words;
+        let request = Request::of(request)?;
+        let conn = number(conn)?;
+        let now = number(now)?;
+        put_counter(alloc, to, self.request(request, token, conn, now))
     }
 
     /// Answers a call that only asks.
@@ -173,13 +218,11 @@ impl SessionTable {
         }
     }
 
-    /// Makes a call that answers nothing, or answers no such call.
+    /// Makes a call that answers nothing, or answers one that only asks.
     fn make(&mut self, alloc: Global, words: &[&str], to: &mut String) -> Result<(), Stop> {
         match words {
-            ["new", boot] => *self = SessionTable::new(alloc, number(boot)?),
-            ["after", boot, last] => {
-                *self = SessionTable::after(alloc, number(boot)?, number(last)?)
-            }
+            ["new", boot] => self.begin(alloc, number(boot)?),
+            ["after", boot, last] => self.go_on(alloc, number(boot)?, number(last)?),
             ["unbind", conn] => self.sessions.unbind(number(conn)?),
             ["close", session] => self.sessions.close(number(session)?),
             ["expire", now] => self.sessions.expire(number(now)?),
@@ -201,21 +244,16 @@ impl SessionTable {
                 self.create(alloc, [conn, timeout, now, uri], to)
             }
             ["park", session, handle] => self.park(alloc, number(session)?, number(handle)?, to),
-            ["unpark", session] => {
-                let out = self.sessions.unpark(number(session)?);
-                put_parked(alloc, to, &out)
-            }
+            ["unpark", session] => self.unpark(alloc, number(session)?, to),
             ["own", id, session] => self.own(alloc, number(id)?, number(session)?, to),
             ["transfer", id, session] => self.transfer(alloc, number(id)?, number(session)?, to),
-            ["by_token", call, digits, conn, now] => {
+            ["by_token", request, digits, conn, now] => {
                 let token = byte_string(alloc, digits)?;
-                let answer = self.request(alloc, call, &token, number(conn)?, number(now)?)?;
-                put_counter(alloc, to, answer)
+                self.put_request(alloc, [request, conn, now], &token, to)
             }
-            [call, counter, conn, now] => {
-                let token = self.token(alloc, counter)?;
-                let answer = self.request(alloc, call, &token, number(conn)?, number(now)?)?;
-                put_counter(alloc, to, answer)
+            [request, counter, conn, now] => {
+                let token = self.token(alloc, number(counter)?)?;
+                self.put_request(alloc, [request, conn, now], &token, to)
             }
             _ => self.make(alloc, words, to),
         }

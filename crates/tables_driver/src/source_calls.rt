@@ -1,7 +1,7 @@
 //! The source of a set.
 
-use crate::stop::Stop;
-use crate::words::{change, put, put_number};
+use crate::words::change;
+use rows::{Stop, put, put_number};
 use set_model::{SourceFault, SourceLog};
 use std::alloc::Global;
 
@@ -15,6 +15,11 @@ impl SourceTable {
         SourceTable {
             source: SourceLog::new(alloc),
         }
+    }
+
+    fn begin(&mut self, alloc: Global, to: &mut String) -> Result<(), Stop> {
+        self.source = SourceLog::new(alloc);
+        put(to, "done")
     }
 
     fn append(&mut self, alloc: Global, words: [&str; 3], to: &mut String) -> Result<(), Stop> {
@@ -35,10 +40,7 @@ impl SourceTable {
         to: &mut String,
     ) -> Result<(), Stop> {
         match words {
-            ["new"] => {
-                *self = SourceTable::new(alloc);
-                put(to, "done")
-            }
+            ["new"] => self.begin(alloc, to),
             ["append", item, at, value] => self.append(alloc, [item, at, value], to),
             ["len"] => put_number(alloc, to, self.source.changes().len() as u64),
             _ => Err(Stop::BadLine),

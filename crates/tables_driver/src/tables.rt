@@ -1,18 +1,18 @@
 //! The tables that lines speak of.
 
+use crate::base_calls;
 use crate::kept_calls::KeptTable;
 use crate::log_calls::{Journal, answer_judge};
 use crate::node_calls::{NodeTable, answer_class};
 use crate::queue_calls::QueueTable;
 use crate::session_calls::SessionTable;
 use crate::source_calls::SourceTable;
-use crate::stop::Stop;
-use crate::{base_calls, scenario_calls};
+use rows::{Driver, Stop};
 use std::alloc::Global;
 
 /// One of each table. A line `NAME new ..` makes its table anew.
 #[derive(Drop)]
-pub struct Tables {
+pub(crate) struct Tables {
     sessions: SessionTable,
     kept: KeptTable,
     nodes: NodeTable,
@@ -23,23 +23,22 @@ pub struct Tables {
 
 impl Tables {
     pub(crate) fn new(alloc: Global) -> Result<Tables, Stop> {
+        let kept = KeptTable::new(alloc)?;
+        let queue = QueueTable::new(alloc)?;
+        let log = Journal::new(alloc, 1, 1)?;
         Ok(Tables {
             sessions: SessionTable::new(alloc, 1),
-            kept: KeptTable::new(alloc)?,
+            kept,
             nodes: NodeTable::new(alloc),
-            queue: QueueTable::new(alloc)?,
-            log: Journal::new(alloc, 1, 1)?,
+            queue,
+            log,
             source: SourceTable::new(alloc),
         })
     }
+}
 
-    /// Answers a line of these words.
-    pub(crate) fn answer(
-        &mut self,
-        alloc: Global,
-        words: &[&str],
-        to: &mut String,
-    ) -> Result<(), Stop> {
+impl Driver for Tables {
+    fn answer(&mut self, alloc: Global, words: &[&str], to: &mut String) -> Result<(), Stop> {
         match words {
             ["session", call @ ..] => self.sessions.answer(alloc, call, to),
             ["kept", call @ ..] => self.kept.answer(alloc, call, to),
@@ -47,7 +46,6 @@ impl Tables {
             ["queue", call @ ..] => self.queue.answer(alloc, call, to),
             ["log", call @ ..] => self.log.answer(alloc, call, to),
             ["source", call @ ..] => self.source.answer(alloc, call, to),
-            ["scenario", pool, text @ ..] => scenario_calls::answer(alloc, pool, text, to),
             ["judge", last, joint, time, marked] => {
                 answer_judge(alloc, [last, joint, time, marked], to)
             }

@@ -2,22 +2,10 @@
 
 ghost use Rattle.std.specs.Prelude.{◌≤◌, IfOk};
 
-use crate::stop::Stop;
-use hex::FromHexError;
+use rows::{Stop, decode, number, put};
 use set_model::{Change, MOST_PICO, Stamp};
 use std::alloc::Global;
 use ua_values::{UaBytes, UaText};
-
-/// The number that a word is.
-pub(crate) fn number<T: std::str::FromStr + Drop>(word: &str) -> Result<T, Stop>
-where
-    T::Err: Drop,
-{
-    match word.parse::<T>() {
-        Ok(number) => Ok(number),
-        Err(_) => Err(Stop::BadLine),
-    }
-}
 
 /// The text that a word is; `null` is the one that isn't there.
 pub(crate) fn text(alloc: Global, word: &str) -> Result<UaText, Stop> {
@@ -30,13 +18,9 @@ pub(crate) fn text(alloc: Global, word: &str) -> Result<UaText, Stop> {
 
 /// The bytes of hexadecimal digits; `-` are none.
 pub(crate) fn bytes(alloc: Global, word: &str) -> Result<Vec<u8>, Stop> {
-    if word == "-" {
-        return Ok(Vec::new(alloc));
-    }
-    match hex::decode(alloc, word) {
-        Ok(bytes) => Ok(bytes),
-        Err(FromHexError::OutOfMemory) => Err(Stop::OutOfMemory),
-        Err(_) => Err(Stop::BadLine),
+    match word {
+        "-" => Ok(Vec::new(alloc)),
+        digits => decode(alloc, digits),
     }
 }
 
@@ -53,17 +37,13 @@ pub(crate) fn byte_string(alloc: Global, word: &str) -> Result<UaBytes, Stop> {
 pub(crate) fn stamp(word: &str) -> Result<Stamp, Stop>
     ensures { IfOk result (λ stamp. stamp.pico ≤ 9999) }
 {
-    let (time, pico) = match word.split_once('.') {
-        Some((time, pico)) => (time, number(pico)?),
-        None => (word, 0),
-    };
+    let (time, pico) = word.split_once('.').unwrap_or((word, "0"));
+    let time = number(time)?;
+    let pico = number(pico)?;
     if pico > MOST_PICO {
         return Err(Stop::BadLine);
     }
-    Ok(Stamp {
-        time: number(time)?,
-        pico,
-    })
+    Ok(Stamp { time, pico })
 }
 
 /// The stamp of a word; `none` is none.
@@ -79,46 +59,15 @@ pub(crate) fn some_stamp(word: &str) -> Result<Option<Stamp>, Stop> {
 pub(crate) fn change(item: &str, at: &str, value: &str) -> Result<Change, Stop>
     ensures { IfOk result (λ change. change.pico ≤ 9999) }
 {
+    let item = number(item)?;
+    let value = number(value)?;
     let Stamp { time, pico } = stamp(at)?;
     Ok(Change {
-        item: number(item)?,
+        item,
         time,
         pico,
-        value: number(value)?,
+        value,
     })
-}
-
-/// `true` or `false`.
-pub(crate) fn truth(word: &str) -> Result<bool, Stop> {
-    match word {
-        "true" => Ok(true),
-        "false" => Ok(false),
-        _ => Err(Stop::BadLine),
-    }
-}
-
-/// Appends a text.
-pub(crate) fn put(to: &mut String, text: &str) -> Result<(), Stop> {
-    to.push_str(text)?;
-    Ok(())
-}
-
-/// Appends a text whose line feeds are `/`.
-pub(crate) fn put_lines(alloc: Global, to: &mut String, text: &[u8]) -> Result<(), Stop> {
-    let Ok(text) = std::str::from_utf8(text) else {
-        return put(to, "no text");
-    };
-    for part in text.split_inclusive('\n') {
-        put_line(alloc, to, part)?;
-    }
-    Ok(())
-}
-
-fn put_line(alloc: Global, to: &mut String, part: &str) -> Result<(), Stop> {
-    match part.strip_suffix('\n') {
-        Some(line) => put(to, format!(in alloc; "{line}/")?.as_str()),
-        None => put(to, part),
-    }
 }
 
 /// Appends a text; `null` is the one that isn't there.
@@ -133,7 +82,7 @@ pub(crate) fn put_text(to: &mut String, text: &UaText) -> Result<(), Stop> {
 }
 
 /// Appends bytes as hexadecimal digits; none are `-`.
-pub(crate) fn put_bytes(alloc: Global, to: &mut String, bytes: &[u8]) -> Result<(), Stop> {
+pub(crate) fn put_digits(alloc: Global, to: &mut String, bytes: &[u8]) -> Result<(), Stop> {
     if bytes.is_empty() {
         return put(to, "-");
     }
@@ -146,14 +95,4 @@ pub(crate) fn put_some(alloc: Global, to: &mut String, some: Option<u32>) -> Res
         Some(number) => put(to, format!(in alloc; "{number}")?.as_str()),
         None => put(to, "none"),
     }
-}
-
-/// Appends `true` or `false`.
-pub(crate) fn put_truth(to: &mut String, is: bool) -> Result<(), Stop> {
-    put(to, if is { "true" } else { "false" })
-}
-
-/// Appends a number.
-pub(crate) fn put_number(alloc: Global, to: &mut String, number: u64) -> Result<(), Stop> {
-    put(to, format!(in alloc; "{number}")?.as_str())
 }

@@ -14,7 +14,7 @@ unbroken : (code : Option ℕ) (split : Split) (text : List ℕ) → shown_split
 unbroken None split text e = (refl, ok_is (stream_text split) text e)
 unbroken (Some code) split text e = absurd cc
 
-pub stream_promised : (bytes text : List ℕ) (split : Split) → IsFramed 0 bytes split → shown_split (fault_of split.rest) split ≡ Ok text → Means command.ShowStream bytes text
-stream_promised bytes text split framed e =
+pub stream_promised : (pool : ℕ) (bytes text : List ℕ) (split : Split) → IsFramed 0 bytes split → shown_split (fault_of split.rest) split ≡ Ok text → Means pool command.ShowStream bytes text
+stream_promised pool bytes text split framed e =
     let is = unbroken (fault_of split.rest) split text e in
     (split, framed, is.0, is.1)

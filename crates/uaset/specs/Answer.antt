@@ -8,6 +8,7 @@ use Rattle.scenario.specs.declared.line.Line.TheVariants as line
 use Rattle.scenario.specs.declared.fault.ScenarioFault.{ScenarioFault}
 use Rattle.scenario.specs.declared.fault.ReadError.{ReadError}
 use Rattle.scenario.specs.declared.fault.ReadError.TheVariants as errors
+use Rattle.scenario.specs.Rules.{rules_of_replay}
 use Rattle.scenario.specs.Scenario.{scenario_of}
 use Rattle.direct_world.specs.State.{WorldState}
 use Rattle.direct_world.specs.World as world
@@ -60,6 +61,6 @@ Renders shown (Ok text) answer = answer ≡ Ok (shown text)
 Renders shown (Err (errors.Fault fault)) answer = answer ≡ Err fault
 Renders shown (Err errors.OutOfMemory) answer = Unit {0}
 
--- the report, or the first faulty line; no listeners are there yet
-abbrev pub answer_of : List ℕ → Result (List ℕ) ScenarioFault
-answer_of bytes = answer_by (scenario_of 0 bytes)
+-- the report, or the first faulty line, where so many listeners may be attached
+abbrev pub answer_of : ℕ → List ℕ → Result (List ℕ) ScenarioFault
+answer_of pool bytes = answer_by (scenario_of (rules_of_replay pool) bytes)

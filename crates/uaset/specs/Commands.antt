@@ -1,11 +1,12 @@
--- What each command answers of its whole input, and what that means.
-use Rattle.std.specs.Prelude.{◌≡◌, ℕ, List, All, None, Result, Ok, Err}
+-- How much each command reads, what it answers of that, and what the answer means.
+use Rattle.std.specs.Prelude.{◌≡◌, ℕ, List, All, Option, Some, None, Result, Ok, Err}
 use Rattle.delivery_log.specs.Caused.{Caused}
 use Rattle.delivery_log.specs.Safe.{InOrder, Safe}
 use Rattle.set_model.specs.Report.{report_text}
 use Rattle.scenario.specs.declared.line.Line.{Line}
 use Rattle.scenario.specs.declared.fault.ScenarioFault.{ScenarioFault}
 use Rattle.scenario.specs.Past.{changes_in}
+use Rattle.scenario.specs.Rules.{rules_of_replay}
 use Rattle.scenario.specs.Scenario.{scenario_of}
 use Rattle.direct_world.specs.Plain.{IsPlain}
 use Rattle.ua_variants.specs.declared.variant.Variant.{Variant}
@@ -23,6 +24,19 @@ use Rattle.uaset.specs.declared.answer.Refusal.{Refusal}
 use Rattle.uaset.specs.declared.answer.Refusal.TheVariants as refusal
 use Rattle.uaset.specs.Answer.{answer_of, client_log, past_of}
 
+-- ---- what is read
+
+-- how many bytes of the input a command reads at most, if it reads any: 64 MiB of a scenario, 1 MiB of what is shown
+abbrev pub reads : Command → Option ℕ
+reads command.Replay = Some 67108864
+reads command.ShowValue = Some 1048576
+reads command.ShowStream = Some 1048576
+
+-- how many bytes are read at most where the words say this; none where they are no command
+abbrev pub reads_of : Result Command ℕ → Option ℕ
+reads_of (Ok c) = reads c
+reads_of (Err place) = None
+
 -- ---- the answer
 
 abbrev pub replayed : Result (List ℕ) ScenarioFault → Result (List ℕ) Refusal
@@ -33,11 +47,11 @@ abbrev pub shown : Result (List ℕ) shows.Refusal → Result (List ℕ) Refusal
 shown (Ok text) = Ok text
 shown (Err fault) = Err (refusal.Show fault.place fault.code)
 
--- the text, or the first fault
-abbrev pub answer_to : Command → List ℕ → Result (List ℕ) Refusal
-answer_to command.Replay bytes = replayed (answer_of bytes)
-answer_to command.ShowValue bytes = shown (shown_value bytes)
-answer_to command.ShowStream bytes = shown (shown_stream bytes)
+-- the text that a command makes of what it reads, or the first fault of that; so many listeners may be attached
+abbrev pub answer_to : ℕ → Command → List ℕ → Result (List ℕ) Refusal
+answer_to pool command.Replay bytes = replayed (answer_of pool bytes)
+answer_to pool command.ShowValue bytes = shown (shown_value bytes)
+answer_to pool command.ShowStream bytes = shown (shown_stream bytes)
 
 -- what a call answered is this, unless memory was refused
 abbrev pub Answered : {A : Type 0} → (A → List ℕ) → Result A Refusal → Result (List ℕ) Refusal → Type 0
@@ -57,10 +71,10 @@ pub record IsTrustworthy (lines : List Line) : Type 0 where
 
 -- the text is the report of a log that can be trusted; or what the one value holds that the whole input spells; or a
 -- line for each of the frames that the input begins with, as many as there are, and how many bytes follow
-abbrev pub Means : Command → List ℕ → List ℕ → Type 0
-Means command.Replay bytes text =
-    (lines : List Line) × (scenario_of 0 bytes ≡ Ok lines) × (text ≡ report_text (client_log lines))
+abbrev pub Means : ℕ → Command → List ℕ → List ℕ → Type 0
+Means pool command.Replay bytes text =
+    (lines : List Line) × (scenario_of (rules_of_replay pool) bytes ≡ Ok lines) × (text ≡ report_text (client_log lines))
     × IsTrustworthy lines
-Means command.ShowValue bytes text = (d : Stamped Variant) × data_value 101 d bytes × (text ≡ value_text d)
-Means command.ShowStream bytes text =
+Means pool command.ShowValue bytes text = (d : Stamped Variant) × data_value 101 d bytes × (text ≡ value_text d)
+Means pool command.ShowStream bytes text =
     (split : Split) × IsFramed 0 bytes split × (fault_of split.rest ≡ None) × (text ≡ stream_text split)

@@ -9,6 +9,10 @@ HasTaken before after bytes = IfSome before (λ all. IsSomeAnd after (λ rest. a
 abbrev pub HasTakenAll : Option (List ℕ) → Option (List ℕ) → List ℕ → Type 0
 HasTakenAll before after bytes = IfSome before (λ all. (all ≡ bytes) × (after ≡ Some []))
 
+-- nothing is left, where that is told
+abbrev pub IsDrained : Option (List ℕ) → Option (List ℕ) → Type 0
+IsDrained before after = IfSome before (λ all. after ≡ Some [])
+
 -- more than so many bytes were left, where that is told
 abbrev pub HadMore : Option (List ℕ) → ℕ → Type 0
 HadMore before most = IfSome before (λ all. most < length all)

@@ -14,7 +14,7 @@ use show::{ShowFault, show_stream, show_value};
 use std::alloc::Global;
 
 /// Why there is no answer.
-#[derive(Clone, Copy, Debug, PartialEq, Eq)]
+#[derive(Clone, Copy)]
 pub(crate) enum Refusal {
     /// The input is no scenario.
     Scenario { line: u64, kind: FaultKind },
@@ -24,12 +24,12 @@ pub(crate) enum Refusal {
     OutOfMemory,
 }
 
-/// The report of a scenario.
-fn replayed(alloc: Global, bytes: &[u8]) -> Result<Vec<u8>, Refusal>
-    ensures exact { Answered (λ text. text.items) result (replayed (answer_of bytes.now)) }
-    ensures means { IfOk result (λ text. Means Command.Replay bytes.now text.items) }
+/// The report of a scenario, which may attach so many listeners.
+fn replayed(alloc: Global, bytes: &[u8], pool: usize) -> Result<Vec<u8>, Refusal>
+    ensures exact { Answered (λ text. text.items) result (replayed (answer_of pool bytes.now)) }
+    ensures means { IfOk result (λ text. Means pool Command.Replay bytes.now text.items) }
 {
-    match replay(alloc, bytes) {
+    match replay(alloc, bytes, pool) {
         Ok(text) => Ok(text),
         Err(ReadError::Fault(fault)) => Err(Refusal::Scenario {
             line: fault.line,
@@ -42,7 +42,7 @@ fn replayed(alloc: Global, bytes: &[u8]) -> Result<Vec<u8>, Refusal>
 /// What a DataValue holds.
 fn value(alloc: Global, bytes: &[u8]) -> Result<Vec<u8>, Refusal>
     ensures exact { Answered (λ text. text.items) result (shown (shown_value bytes.now)) }
-    ensures means { IfOk result (λ text. Means Command.ShowValue bytes.now text.items) }
+    ensures means { IfOk result (λ text. Means 0 Command.ShowValue bytes.now text.items) }
 {
     match show_value(alloc, bytes) {
         Ok(text) => Ok(text),
@@ -54,7 +54,7 @@ fn value(alloc: Global, bytes: &[u8]) -> Result<Vec<u8>, Refusal>
 /// The frames of a stream.
 fn stream(alloc: Global, bytes: &[u8]) -> Result<Vec<u8>, Refusal>
     ensures exact { Answered (λ text. text.items) result (shown (shown_stream bytes.now)) }
-    ensures means { IfOk result (λ text. Means Command.ShowStream bytes.now text.items) }
+    ensures means { IfOk result (λ text. Means 0 Command.ShowStream bytes.now text.items) }
 {
     match show_stream(alloc, bytes) {
         Ok(text) => Ok(text),
@@ -64,13 +64,13 @@ fn stream(alloc: Global, bytes: &[u8]) -> Result<Vec<u8>, Refusal>
 }
 
 impl Command {
-    /// What the command writes of this input.
-    pub(crate) fn answer(self, alloc: Global, bytes: &[u8]) -> Result<Vec<u8>, Refusal>
-        ensures exact { Answered (λ text. text.items) result (answer_to self bytes.now) }
-        ensures means { IfOk result (λ text. Means self bytes.now text.items) }
+    /// What the command writes of what it read, where so many listeners may be attached.
+    pub(crate) fn answer(self, alloc: Global, bytes: &[u8], pool: usize) -> Result<Vec<u8>, Refusal>
+        ensures exact { Answered (λ text. text.items) result (answer_to pool self bytes.now) }
+        ensures means { IfOk result (λ text. Means pool self bytes.now text.items) }
     {
         match self {
-            Command::Replay => replayed(alloc, bytes),
+            Command::Replay => replayed(alloc, bytes, pool),
             Command::ShowValue => value(alloc, bytes),
             Command::ShowStream => stream(alloc, bytes),
         }

@@ -1,22 +1,28 @@
-ghost use Rattle.std.specs.Prelude.{◌≡◌, ◌↔◌, ◌+◌, ◌≤◌, ◌<◌, List, ℕ, Some, Ok, Err, ◌⊎◌, length, map, IsTrue};
+//! What the program does.
+
+ghost use Rattle.std.specs.Prelude.{◌≡◌, ◌↔◌, ◌+◌, ◌<◌, List, ℕ, Some, None, Ok, Err, ◌⊎◌, length, map, IsTrue, IsSome};
 ghost use Rattle.ua_edge.specs.Calls.{Rose};
 ghost use Rattle.scenario.specs.declared.fault.FaultKind.{FaultKind};
 ghost use Rattle.uaset.specs.declared.answer.Refusal.TheVariants as refusals;
-ghost use Rattle.uaset.specs.Commands.{answer_to};
-ghost use Rattle.uaset.specs.Edges.{HadMore};
-ghost use Rattle.uaset.specs.Run.{Answers, AnswersInPart, KeepsPromise, IsDrained, IsRefused, is_silent, status_after};
-ghost use Rattle.uaset.specs.Words.{command_of, most_bytes};
+ghost use Rattle.uaset.specs.Commands.{answer_to, reads, reads_of};
+ghost use Rattle.uaset.specs.Edges.{HadMore, IsDrained};
+ghost use Rattle.uaset.specs.Run.{Answers, AnswersInPart, Gets, IsRefused, IsUntroubled, KeepsPromise};
+ghost use Rattle.uaset.specs.Run.{is_silent, judges, listeners, status_after};
+ghost use Rattle.uaset.specs.Words.{command_of};
 
 use crate::answer::Refusal;
-use crate::reading::{ReadStop, read_all};
+use crate::reading::ReadStop;
 use crate::status::Status;
 use crate::words::Command;
 use crate::writing::{WriteStop, write_all};
 use std::alloc::Global;
 use ua_edge::{Sink, Source};
 
-/// Reads the input to its end and writes what the command answers of it. Nothing is written before the whole answer is
-/// known.
+/// How many listeners a run may attach: there are none yet.
+const LISTENERS: usize = 0;
+
+/// Does what the words say: reads the input to its end, where the command reads, and writes what it answers. Nothing is
+/// written before the whole answer is known.
 pub fn run<I: Source, O: Sink>(
     alloc: Global,
     words: &[&str],
@@ -26,58 +32,57 @@ pub fn run<I: Source, O: Sink>(
     ensures usage { (place : ℕ)
         → (result ≡ Status.Usage place) ↔ (command_of (map (λ w. w.now) words.now) ≡ Err place) }
     ensures ok { (c : Command) → command_of (map (λ w. w.now) words.now) ≡ Ok c → result ≡ Status.Ok
-        → Answers c (I.left input.old) (O.written output.old) (O.written output.new) }
+        → Answers listeners c (I.left input.old) (O.written output.old) (O.written output.new) }
     ensures means { (c : Command) → command_of (map (λ w. w.now) words.now) ≡ Ok c → result ≡ Status.Ok
-        → KeepsPromise c (I.left input.old) (O.written output.old) (O.written output.new) }
+        → KeepsPromise listeners c (I.left input.old) (O.written output.old) (O.written output.new) }
     ensures scenario { (c : Command) (line : ℕ) (kind : FaultKind) → command_of (map (λ w. w.now) words.now) ≡ Ok c
         → result ≡ Status.Scenario line kind
-        → IsRefused c (refusals.Scenario line kind) (I.left input.old) }
+        → IsRefused listeners c (refusals.Scenario line kind) (I.left input.old) }
     ensures show { (c : Command) (place code : ℕ) → command_of (map (λ w. w.now) words.now) ≡ Ok c
         → result ≡ Status.Show place code
-        → IsRefused c (refusals.Show place code) (I.left input.old) }
-    ensures read { result ≡ Status.ReadFault → Rose (I.faults input.old) (I.faults input.new) }
+        → IsRefused listeners c (refusals.Show place code) (I.left input.old) }
+    ensures read { result ≡ Status.ReadFault → IsSome (reads_of (command_of (map (λ w. w.now) words.now)))
+        × Rose (I.faults input.old) (I.faults input.new) }
     ensures write { result ≡ Status.WriteFault → Rose (O.faults output.old) (O.faults output.new) }
-    ensures long { (c : Command) (bytes : ℕ) → command_of (map (λ w. w.now) words.now) ≡ Ok c
-        → result ≡ Status.TooLong bytes
-        → (bytes ≡ most_bytes c + 1) × HadMore (I.left input.old) (most_bytes c) }
+    ensures long { (bytes : ℕ) → result ≡ Status.TooLong bytes
+        → (most : ℕ) × (reads_of (command_of (map (λ w. w.now) words.now)) ≡ Some most) × (bytes ≡ most + 1)
+        × HadMore (I.left input.old) most }
     ensures part { (c : Command) → command_of (map (λ w. w.now) words.now) ≡ Ok c → result ≡ Status.WriteFault
-        → AnswersInPart c (I.left input.old) (O.written output.old) (O.written output.new) }
+        → AnswersInPart listeners c (I.left input.old) (O.written output.old) (O.written output.new) }
     ensures memory { (c : Command) → command_of (map (λ w. w.now) words.now) ≡ Ok c → result ≡ Status.Memory
-        → (output.new ≡ output.old) ⊎ AnswersInPart c (I.left input.old) (O.written output.old) (O.written output.new) }
+        → (output.new ≡ output.old)
+        ⊎ AnswersInPart listeners c (I.left input.old) (O.written output.old) (O.written output.new) }
     ensures silent { IsTrue (is_silent result) → output.new ≡ output.old }
-    ensures unread { (place : ℕ) → result ≡ Status.Usage place → input.new ≡ input.old }
-    ensures drained { IsDrained result (I.left input.old) (I.left input.new) }
+    ensures unread { reads_of (command_of (map (λ w. w.now) words.now)) ≡ None → input.new ≡ input.old }
+    ensures drained { IsSome (reads_of (command_of (map (λ w. w.now) words.now))) → IsTrue (judges result)
+        → IsDrained (I.left input.old) (I.left input.new) }
 
     // What comes where no fault is counted, or want of memory.
     ensures completes { (c : Command) (bytes text : List ℕ) → command_of (map (λ w. w.now) words.now) ≡ Ok c
-        → I.left input.old ≡ Some bytes → length bytes ≤ most_bytes c → answer_to c bytes ≡ Ok text
-        → ¬ Rose (I.faults input.old) (I.faults input.new)
+        → Gets c (I.left input.old) bytes → answer_to listeners c bytes ≡ Ok text
+        → IsUntroubled c (I.faults input.old) (I.faults input.new)
         → ¬ Rose (O.faults output.old) (O.faults output.new) → (result ≡ Status.Ok) ⊎ (result ≡ Status.Memory) }
     ensures refuses { (c : Command) (bytes : List ℕ) (refusal : Refusal)
         → command_of (map (λ w. w.now) words.now) ≡ Ok c
-        → I.left input.old ≡ Some bytes → length bytes ≤ most_bytes c → answer_to c bytes ≡ Err refusal
-        → ¬ Rose (I.faults input.old) (I.faults input.new)
+        → Gets c (I.left input.old) bytes → answer_to listeners c bytes ≡ Err refusal
+        → IsUntroubled c (I.faults input.old) (I.faults input.new)
         → (result ≡ status_after refusal) ⊎ (result ≡ Status.Memory) }
-    ensures ends_early { (c : Command) (bytes : List ℕ) → command_of (map (λ w. w.now) words.now) ≡ Ok c
-        → I.left input.old ≡ Some bytes → most_bytes c < length bytes → ¬ Rose (I.faults input.old) (I.faults input.new)
-        → (result ≡ Status.TooLong (most_bytes c + 1)) ⊎ (result ≡ Status.Memory) }
+    ensures ends_early { (c : Command) (most : ℕ) (bytes : List ℕ)
+        → command_of (map (λ w. w.now) words.now) ≡ Ok c → reads c ≡ Some most
+        → I.left input.old ≡ Some bytes → most < length bytes → ¬ Rose (I.faults input.old) (I.faults input.new)
+        → (result ≡ Status.TooLong (most + 1)) ⊎ (result ≡ Status.Memory) }
 {
     let command = match Command::of(words) {
         Ok(command) => command,
         Err(place) => return Status::Usage { place },
     };
-    let most = command.most_bytes();
-    let bytes = match read_all(alloc, input, most) {
+    let bytes = match command.read(alloc, input) {
         Ok(bytes) => bytes,
         Err(ReadStop::Failed) => return Status::ReadFault,
-        Err(ReadStop::TooLong) => {
-            return Status::TooLong {
-                bytes: most as u64 + 1,
-            };
-        }
+        Err(ReadStop::TooLong { bytes }) => return Status::TooLong { bytes },
         Err(ReadStop::OutOfMemory) => return Status::Memory,
     };
-    let text = match command.answer(alloc, bytes.as_slice()) {
+    let text = match command.answer(alloc, bytes.as_slice(), LISTENERS) {
         Ok(text) => text,
         Err(Refusal::Scenario { line, kind }) => return Status::Scenario { line, kind },
         Err(Refusal::Show { place, code }) => return Status::Show { place, code },

@@ -3,6 +3,7 @@
 
 mod answer;
 mod command;
+mod laws;
 mod reading;
 mod replay;
 mod status;
@@ -20,8 +21,8 @@ use std::{io, str};
 use ua_base::OutOfMemory;
 use ua_edge::{ReadSource, WriteSink};
 
-/// The longest word of a command has six bytes.
-const MOST_WORD: usize = 16;
+/// The most bytes of a word that a command may have. Today's longest has six; the numeral of a `u64` has 20 at most.
+const MOST_WORD: usize = 20;
 
 /// The word that these bytes are. What is no text is the empty word, which is no word of a command either.
 fn word_of(rt: &HostRuntime, bytes: &[u8]) -> Result<String, OutOfMemory> {

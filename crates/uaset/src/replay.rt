@@ -10,7 +10,7 @@ use std::alloc::Global;
 use ua_base::OutOfMemory;
 
 /// How wide a set is, and which entry a full queue of it discards, as its first two lines say.
-#[derive(Clone, Copy, Debug, PartialEq, Eq)]
+#[derive(Clone, Copy)]
 struct Size {
     servers: u8,
     items: u8,
@@ -70,10 +70,10 @@ fn report_lines(alloc: Global, lines: &[Line]) -> Result<Vec<u8>, OutOfMemory>
     report_of(alloc, world.lines())
 }
 
-/// The report of a scenario's text, or its first faulty line.
-pub(crate) fn replay(alloc: Global, bytes: &[u8]) -> Result<Vec<u8>, ReadError>
-    ensures { Renders (λ text. text.items) result (answer_of bytes.now) }
+/// The report of a scenario's text, which may attach so many listeners, or its first faulty line.
+pub(crate) fn replay(alloc: Global, bytes: &[u8], pool: usize) -> Result<Vec<u8>, ReadError>
+    ensures { Renders (λ text. text.items) result (answer_of pool bytes.now) }
 {
-    let lines = scenario::read(alloc, bytes, 0)?;
+    let lines = scenario::read(alloc, bytes, pool)?;
     Ok(report_lines(alloc, lines.as_slice())?)
 }

@@ -1,10 +1,11 @@
 //! The words of a command.
 
 ghost use Rattle.std.specs.Prelude.{◌≡◌, map};
-ghost use Rattle.uaset.specs.Words.{only, show_of, command_of, most_bytes};
+ghost use Rattle.uaset.specs.Words.{Yields, behind, command_of, farther, no_more, read_row};
+ghost use Rattle.uaset.specs.Words.{replay_row, stream_row, value_row};
 
 /// What the program may be told to do.
-#[derive(Clone, Copy, Debug, PartialEq, Eq)]
+#[derive(Clone, Copy)]
 pub enum Command {
     /// Runs a scenario and writes its report.
     Replay,
@@ -14,11 +15,56 @@ pub enum Command {
     ShowStream,
 }
 
-/// The most bytes of a scenario.
-pub const MOST_SCENARIO_BYTES: usize = 67_108_864;
+/// The words behind this one, which is to stand at a place.
+fn behind<'a>(words: &'a [&'a str], place: usize, word: &str) -> Result<&'a [&'a str], usize>
+    ensures { Yields (λ left. map (λ w. w.now) left.now) result (behind word.now place (map (λ w. w.now) words.now)) }
+{
+    match words {
+        [first, rest @ ..] => { if *first == word { Ok(rest) } else { Err(place) } }
+        [] => Err(place),
+    }
+}
 
-/// The most bytes that are shown.
-pub const MOST_SHOWN_BYTES: usize = 1_048_576;
+/// The command, where no word is left.
+fn ends(words: &[&str], place: usize, command: Command) -> Result<Command, usize>
+    ensures { result ≡ no_more command place (map (λ w. w.now) words.now) }
+{
+    match words {
+        [] => Ok(command),
+        [_, ..] => Err(place),
+    }
+}
+
+fn replay(words: &[&str]) -> Result<Command, usize>
+    ensures { result ≡ read_row replay_row 0 (map (λ w. w.now) words.now) }
+{
+    ends(behind(words, 0, "replay")?, 1, Command::Replay)
+}
+
+fn show_value(words: &[&str]) -> Result<Command, usize>
+    ensures { result ≡ read_row value_row 0 (map (λ w. w.now) words.now) }
+{
+    let shown = behind(words, 0, "show")?;
+    ends(behind(shown, 1, "value")?, 2, Command::ShowValue)
+}
+
+fn show_stream(words: &[&str]) -> Result<Command, usize>
+    ensures { result ≡ read_row stream_row 0 (map (λ w. w.now) words.now) }
+{
+    let shown = behind(words, 0, "show")?;
+    ends(behind(shown, 1, "stream")?, 2, Command::ShowStream)
+}
+
+/// What the first row says, or else what the other says; or the place to which the words fit one of them.
+fn farther(first: Result<Command, usize>, other: Result<Command, usize>) -> Result<Command, usize>
+    ensures { result ≡ farther first other }
+{
+    match (first, other) {
+        (Ok(command), _) => Ok(command),
+        (Err(_), Ok(command)) => Ok(command),
+        (Err(place), Err(other)) => Err(place.max(other)),
+    }
+}
 
 impl Command {
     /// The command that the words are; or the place of the first word that fits none, from 0, or the count of words
@@ -26,56 +72,9 @@ impl Command {
     pub(crate) fn of(words: &[&str]) -> Result<Command, usize>
         ensures { result ≡ command_of (map (λ w. w.now) words.now) }
     {
-        match words {
-            [] => Err(0),
-            [first, rest @ ..] => {
-                if *first == "replay" {
-                    only(Command::Replay, 1, rest)
-                } else if *first == "show" {
-                    show_of(rest)
-                } else {
-                    Err(0)
-                }
-            }
-        }
-    }
-
-    /// How many bytes of its input a command reads at most.
-    pub(crate) fn most_bytes(self) -> usize
-        ensures { result ≡ most_bytes self }
-    {
-        match self {
-            Command::Replay => MOST_SCENARIO_BYTES,
-            Command::ShowValue => MOST_SHOWN_BYTES,
-            Command::ShowStream => MOST_SHOWN_BYTES,
-        }
-    }
-}
-
-/// The command, where no word follows it.
-fn only(command: Command, place: usize, rest: &[&str]) -> Result<Command, usize>
-    ensures { result ≡ only command place (map (λ w. w.now) rest.now) }
-{
-    match rest {
-        [] => Ok(command),
-        [_, ..] => Err(place),
-    }
-}
-
-/// What is shown, by the words after `show`.
-fn show_of(words: &[&str]) -> Result<Command, usize>
-    ensures { result ≡ show_of (map (λ w. w.now) words.now) }
-{
-    match words {
-        [] => Err(1),
-        [first, rest @ ..] => {
-            if *first == "value" {
-                only(Command::ShowValue, 2, rest)
-            } else if *first == "stream" {
-                only(Command::ShowStream, 2, rest)
-            } else {
-                Err(1)
-            }
-        }
+        farther(
+            replay(words),
+            farther(show_value(words), show_stream(words)),
+        )
     }
 }

@@ -5,7 +5,7 @@ ghost use Rattle.uaset.specs.Edges.{HasAppended, HasAppendedFront};
 use ua_edge::{Put, Sink};
 
 /// Why not all bytes were written.
-#[derive(Clone, Copy, Debug, PartialEq, Eq)]
+#[derive(Clone, Copy)]
 pub(crate) enum WriteStop {
     Failed,
     OutOfMemory,

@@ -2,31 +2,19 @@
 
 ghost use Rattle.std.specs.Prelude.{◌<◌};
 
-use crate::digits::put_bytes;
+use rows::{Stop, put, put_bar, put_bytes, put_place};
 use std::alloc::Global;
-use ua_base::OutOfMemory;
 use ua_chunks::{Frame, FrameFault, Framer};
 
 pub(crate) fn put_frame_fault(
     alloc: Global,
     fault: FrameFault,
     to: &mut String,
-) -> Result<(), OutOfMemory> {
+) -> Result<(), Stop> {
     match fault {
-        FrameFault::Bad { place, code } => {
-            to.push_str(&format!(in alloc; "byte {place}: {code:08X}")?)?;
-            Ok(())
-        }
-        FrameFault::OutOfMemory => Err(OutOfMemory),
+        FrameFault::Bad { place, code } => put_place(alloc, place, code, to),
+        FrameFault::OutOfMemory => Err(Stop::OutOfMemory),
     }
-}
-
-/// A text between two parts of an answer: nothing before the first one.
-pub(crate) fn put_bar(to: &mut String) -> Result<(), OutOfMemory> {
-    if !to.is_empty() {
-        to.push_str(" / ")?;
-    }
-    Ok(())
 }
 
 /// Feeds the bytes in pieces of so many, up to the first fault.
@@ -47,7 +35,7 @@ pub(crate) fn feed(
 }
 
 /// A frame's kind, part, size and body, after its place.
-fn put_frame(alloc: Global, frame: &Frame, to: &mut String) -> Result<(), OutOfMemory> {
+fn put_frame(alloc: Global, frame: &Frame, to: &mut String) -> Result<(), Stop> {
     let Frame {
         place: _,
         kind,
@@ -55,7 +43,7 @@ fn put_frame(alloc: Global, frame: &Frame, to: &mut String) -> Result<(), OutOfM
         body,
     } = frame;
     let size = body.len().saturating_add(8);
-    to.push_str(&format!(in alloc; "{kind} {chunk} {size} ")?)?;
+    put(to, format!(in alloc; "{kind} {chunk} {size} ")?.as_str())?;
     put_bytes(alloc, body.bytes(), to)
 }
 
@@ -80,7 +68,7 @@ impl Row {
     }
 
     /// Appends the first one's place, and how many they are, where they are several.
-    fn put(&self, alloc: Global, to: &mut String) -> Result<(), OutOfMemory> {
+    fn put(&self, alloc: Global, to: &mut String) -> Result<(), Stop> {
         if self.count == 0 {
             return Ok(());
         }
@@ -91,22 +79,22 @@ impl Row {
             size: _,
             count,
         } = self;
-        to.push_str(&format!(in alloc; "{place} {text}")?)?;
+        put(to, format!(in alloc; "{place} {text}")?.as_str())?;
         if *count > 1 {
-            to.push_str(&format!(in alloc; ", {count} times")?)?;
+            put(to, format!(in alloc; ", {count} times")?.as_str())?;
         }
         Ok(())
     }
 }
 
-fn text_of(alloc: Global, frame: &Frame) -> Result<String, OutOfMemory> {
+fn text_of(alloc: Global, frame: &Frame) -> Result<String, Stop> {
     let mut text = String::new(alloc);
     put_frame(alloc, frame, &mut text)?;
     Ok(text)
 }
 
 /// Counts the frame among those before it, or begins a new row.
-fn add(alloc: Global, frame: &Frame, row: &mut Row, to: &mut String) -> Result<(), OutOfMemory> {
+fn add(alloc: Global, frame: &Frame, row: &mut Row, to: &mut String) -> Result<(), Stop> {
     let text = text_of(alloc, frame)?;
     if row.goes_on(frame, &text) {
         row.count = row.count.saturating_add(1);
@@ -121,7 +109,7 @@ fn add(alloc: Global, frame: &Frame, row: &mut Row, to: &mut String) -> Result<(
 }
 
 /// Appends all frames.
-fn put_frames(alloc: Global, frames: &[Frame], to: &mut String) -> Result<(), OutOfMemory> {
+fn put_frames(alloc: Global, frames: &[Frame], to: &mut String) -> Result<(), Stop> {
     let mut row = Row {
         place: 0,
         text: String::new(alloc),
@@ -135,19 +123,18 @@ fn put_frames(alloc: Global, frames: &[Frame], to: &mut String) -> Result<(), Ou
 }
 
 /// Appends how many bytes are left.
-fn put_rest(alloc: Global, framer: &Framer, to: &mut String) -> Result<(), OutOfMemory> {
+fn put_rest(alloc: Global, framer: &Framer, to: &mut String) -> Result<(), Stop> {
     put_bar(to)?;
     let rest = framer.rest();
-    to.push_str(&format!(in alloc; "rest {rest}")?)?;
-    Ok(())
+    put(to, format!(in alloc; "rest {rest}")?.as_str())
 }
 
 /// Appends the fault, where there is one.
-fn put_answer(
+pub(crate) fn put_answer(
     alloc: Global,
     answer: Result<(), FrameFault>,
     to: &mut String,
-) -> Result<(), OutOfMemory> {
+) -> Result<(), Stop> {
     match answer {
         Ok(()) => Ok(()),
         Err(fault) => {
@@ -163,26 +150,26 @@ fn put_after(
     framer: &mut Framer,
     frames: &mut Vec<Frame>,
     to: &mut String,
-) -> Result<(), OutOfMemory> {
+) -> Result<(), Stop> {
     let count = frames.len();
     let answer = framer.feed(alloc, &[], frames);
     put_answer(alloc, answer, to)?;
     let answer = framer.feed(alloc, b"M", frames);
     put_answer(alloc, answer, to)?;
     if frames.len() != count {
-        to.push_str(" more frames")?;
+        put(to, " more frames")?;
     }
     put_rest(alloc, framer, to)
 }
 
-/// The frames of bytes that come in two parts, each in pieces of so many; what is left; and, where there is a fault, it, and what
-/// is said of it when more is fed.
+/// The frames of bytes that come in two parts, each in pieces of so many; what is left; and, where there is a fault,
+/// it, and what is said of it when more is fed.
 pub(crate) fn tell_frames(
     alloc: Global,
     cut: usize,
     parts: [&[u8]; 2],
     to: &mut String,
-) -> Result<(), OutOfMemory>
+) -> Result<(), Stop>
     requires { 0 < cut }
 {
     let [first, second] = parts;
@@ -204,7 +191,7 @@ pub(crate) fn tell_frames(
     Ok(())
 }
 
-fn text_of_cut(alloc: Global, cut: usize, parts: [&[u8]; 2]) -> Result<String, OutOfMemory>
+fn text_of_cut(alloc: Global, cut: usize, parts: [&[u8]; 2]) -> Result<String, Stop>
     requires { 0 < cut }
 {
     let mut text = String::new(alloc);
@@ -219,24 +206,27 @@ fn put_other(
     bytes: &[u8],
     whole: &str,
     to: &mut String,
-) -> Result<(), OutOfMemory> {
+) -> Result<(), Stop> {
     let Some((first, second)) = bytes.split_at_checked(place) else {
         return Ok(());
     };
     let text = text_of_cut(alloc, bytes.len().max(1), [first, second])?;
     if text.as_str() != whole {
-        to.push_str(&format!(in alloc; " BUT CUT AT {place}: {text}")?)?;
+        put(
+            to,
+            format!(in alloc; " BUT CUT AT {place}: {text}")?.as_str(),
+        )?;
     }
     Ok(())
 }
 
 /// The frames of bytes that come at once, and any other answer when they come one by one, or in two parts.
-pub(crate) fn tell_cuts(alloc: Global, bytes: &[u8], to: &mut String) -> Result<(), OutOfMemory> {
+pub(crate) fn tell_cuts(alloc: Global, bytes: &[u8], to: &mut String) -> Result<(), Stop> {
     let whole = text_of_cut(alloc, bytes.len().max(1), [bytes, &[]])?;
-    to.push_str(&whole)?;
+    put(to, &whole)?;
     let single = text_of_cut(alloc, 1, [bytes, &[]])?;
     if single != whole {
-        to.push_str(&format!(in alloc; " BUT ONE BY ONE: {single}")?)?;
+        put(to, format!(in alloc; " BUT ONE BY ONE: {single}")?.as_str())?;
     }
     for place in 0..=bytes.len() {
         put_other(alloc, place, bytes, &whole, to)?;
@@ -250,7 +240,7 @@ pub(crate) fn tell_count(
     cut: usize,
     bytes: &[u8],
     to: &mut String,
-) -> Result<(), OutOfMemory>
+) -> Result<(), Stop>
     requires { 0 < cut }
 {
     let mut framer = Framer::new(alloc);
@@ -263,6 +253,6 @@ pub(crate) fn tell_count(
         count = count.saturating_add(frames.len());
         frames.clear();
     }
-    to.push_str(&format!(in alloc; "{count} frames")?)?;
+    put(to, format!(in alloc; "{count} frames")?.as_str())?;
     put_rest(alloc, &framer, to)
 }

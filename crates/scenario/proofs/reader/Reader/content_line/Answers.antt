@@ -1,26 +1,17 @@
-use Rattle.std.proofs.Common.{rules}
+use Rattle.std.proofs.Common.{◌≡◌, true, subst}
+use Rattle.scenario.specs.declared.form.Form.{Form}
+use Rattle.scenario.specs.Table.{row_of}
+use Rattle.scenario.specs.Faults.{is_in_place}
+use Rattle.scenario.proofs.FaultLemmas.{placed_row}
 use Rattle.scenario.proofs.reader.Reader.content_line.Goals as goal
 
+pub plain_line-requires : goal.plain_line-requires
+plain_line-requires c =
+    let P : Form → Type 0 = λ f. is_in_place c.args.rules c.args.self.now f ≡ true in
+    (placed_row c.args.rules c.args.self.now (row_of c.in-Plain.name) c.in-Plain.numbers (subst P c.in-Plain.is c.requires)).count
+
 pub returns-in-Set : goal.returns-in-Set
-returns-in-Set c = rw c.in-Set.is (c.set_line.ensures c.args.pool c.args.self.now)
+returns-in-Set c = rw c.in-Set.is (c.set_line.ensures c.args.self.now)
 
 pub returns-in-Items : goal.returns-in-Items
-returns-in-Items c = rw c.in-Items.is (c.items_line.ensures c.args.pool c.args.self.now)
-
-pub returns-in-Change : goal.returns-in-Change
-returns-in-Change c = let h = c.change_line.ensures c.args.pool in search rules
-
-pub returns-in-Feed : goal.returns-in-Feed
-returns-in-Feed c = rw c.in-Feed.is (c.feed_line.ensures c.args.pool)
-
-pub returns-in-Take : goal.returns-in-Take
-returns-in-Take c = rw c.in-Take.is (c.take_line.ensures c.args.pool)
-
-pub returns-in-Stop : goal.returns-in-Stop
-returns-in-Stop c = rw c.in-Stop.is (c.stop_line.ensures c.args.pool)
-
-pub returns-in-Start : goal.returns-in-Start
-returns-in-Start c = rw c.in-Start.is (c.start_line.ensures c.args.pool)
-
-pub returns-in-Unlisten : goal.returns-in-Unlisten
-returns-in-Unlisten c = rw c.in-Unlisten.is (c.unlisten_line.ensures c.args.pool)
+returns-in-Items c = rw c.in-Items.is (c.items_line.ensures c.args.rules c.args.self.now)

@@ -3,4 +3,4 @@ use Rattle.scenario.proofs.FaultLemmas.{may_follow}
 use Rattle.scenario.proofs.reader.Reader.step.Goals as goal
 
 pub take-requires : goal.take-requires
-take-requires c = may_follow c.args.pool c.args.self.now c.args.text.now c.in-Ok.line (sym c.in-Ok.ensures)
+take-requires c = may_follow c.args.rules c.args.self.now c.args.text.now c.in-Ok.line (sym c.in-Ok.ensures)

@@ -1,0 +1,128 @@
+ghost use Rattle.std.specs.Prelude.{◌≡◌};
+ghost use Rattle.scenario.specs.Rules.{allows, allows_set, is_built, rules_of_all, rules_of_replay};
+
+use crate::table::Group;
+use ua_base::SetMode;
+
+/// The most lines of a scenario.
+pub const MOST_LINES: usize = 1_000_000;
+
+/// The most changes of a scenario.
+pub const MOST_CHANGES: u32 = 200_000;
+
+/// The sets that a command's scenarios may begin with. Of any other set the line is no line of the command's.
+#[derive(Clone, Copy, Debug, PartialEq, Eq)]
+pub enum Sets {
+    Any,
+    /// Those in hot, warm and cold mode.
+    OverBytes,
+    /// One server in hot mode.
+    OneHot,
+}
+
+/// The modes that the program can run.
+#[derive(Clone, Copy, Debug, PartialEq, Eq)]
+pub struct Built {
+    pub direct: bool,
+    pub hot: bool,
+    pub warm: bool,
+    pub cold: bool,
+}
+
+/// The groups of lines that a command's scenarios have, beside those that all have.
+#[derive(Clone, Copy, Debug, PartialEq, Eq)]
+pub struct Allowed {
+    pub links: bool,
+    pub servers: bool,
+    pub listeners: bool,
+}
+
+/// How a command judges a scenario.
+#[derive(Clone, Copy, Debug, PartialEq, Eq)]
+pub struct Rules {
+    pub sets: Sets,
+    pub built: Built,
+    pub allowed: Allowed,
+    /// The most lines.
+    pub lines: usize,
+    /// The most changes. No source has more than 200,000.
+    pub changes: u32,
+    /// How many listeners there are.
+    pub pool: usize,
+}
+
+impl Rules {
+    /// Those of `replay`, which runs direct sets alone.
+    pub fn replay(pool: usize) -> Rules
+        ensures { result ≡ rules_of_replay pool }
+    {
+        let built = Built {
+            direct: true,
+            hot: false,
+            warm: false,
+            cold: false,
+        };
+        Rules {
+            built,
+            ..Rules::all(pool)
+        }
+    }
+
+    /// Those of a program that runs sets in all modes.
+    pub fn all(pool: usize) -> Rules
+        ensures { result ≡ rules_of_all pool }
+    {
+        Rules {
+            sets: Sets::Any,
+            built: Built {
+                direct: true,
+                hot: true,
+                warm: true,
+                cold: true,
+            },
+            allowed: Allowed {
+                links: true,
+                servers: true,
+                listeners: true,
+            },
+            lines: MOST_LINES,
+            changes: MOST_CHANGES,
+            pool,
+        }
+    }
+
+    /// Whether a scenario may begin with this set.
+    pub(crate) fn allows_set(self, mode: SetMode, servers: u64) -> bool
+        ensures { result ≡ allows_set self.sets mode servers }
+    {
+        match self.sets {
+            Sets::Any => true,
+            Sets::OverBytes => mode != SetMode::Direct,
+            Sets::OneHot => mode == SetMode::Hot && servers == 1,
+        }
+    }
+
+    /// Whether the program can run sets in this mode.
+    pub(crate) fn is_built(self, mode: SetMode) -> bool
+        ensures { result ≡ is_built self.built mode }
+    {
+        match mode {
+            SetMode::Direct => self.built.direct,
+            SetMode::Hot => self.built.hot,
+            SetMode::Warm => self.built.warm,
+            SetMode::Cold => self.built.cold,
+        }
+    }
+
+    /// Whether a scenario may have lines of this group.
+    pub(crate) fn allows(self, group: Group) -> bool
+        ensures { result ≡ allows self.allowed group }
+    {
+        match group {
+            Group::Common => true,
+            Group::Links => self.allowed.links,
+            Group::Servers => self.allowed.servers,
+            Group::Listeners => self.allowed.listeners,
+        }
+    }
+}

@@ -1,0 +1,6 @@
+pub mod Cutting
+pub mod Slots
+pub mod Parting
+pub mod Coming
+pub mod Showing
+pub mod Beginning

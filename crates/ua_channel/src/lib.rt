@@ -1,0 +1,22 @@
+//! One end of a connection: bytes to whole messages and back (OPC 10000-6, 6.7 and 7.1), for server and client alike.
+#![tactic(auto)]
+
+mod channel;
+mod channels;
+mod ear;
+mod fault;
+mod heard;
+mod laws;
+mod node;
+mod wire;
+
+pub use channel::{Channel, MOST_HELD};
+pub use channels::Channels;
+pub use ear::Ear;
+pub use fault::ChannelFault;
+pub use heard::Heard;
+pub use laws::{
+    fronts_are_heard, messages_are_heard, messages_show_bytes, numbers_go_on, pieces_are_one,
+};
+pub use node::{Core, take_bytes};
+pub use wire::{Limits, Order, Wire};
