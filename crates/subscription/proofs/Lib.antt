@@ -1,5 +1,6 @@
 mod Counting
 mod Finding
+mod Linking
 mod Rising
 mod Rows
 mod Seeing

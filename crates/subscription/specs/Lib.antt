@@ -9,3 +9,4 @@ pub mod Sendings
 pub mod Counts
 pub mod Seen
 pub mod Sources
+pub mod Linked

@@ -1,5 +1,5 @@
 //! What any calls on a subscription come to. Nothing here runs.
-ghost use Rattle.std.specs.Prelude.{◌≡◌, ◌≤◌, ◌+◌, ◌↔◌, FitsSigned, map, [], ℕ, ℤ, List, Some, None, length, true, false};
+ghost use Rattle.std.specs.Prelude.{◌≡◌, ◌≤◌, ◌+◌, ◌↔◌, FitsSigned, ◌++◌, map, [], ℕ, ℤ, List, Some, None, length, true, false};
 ghost use Rattle.retransmit.specs.History.{acknowledged, available};
 ghost use Rattle.retransmit.specs.Kept.{message_of};
 ghost use Rattle.ua_sub_msgs.specs.declared.notification.NotificationMessage.{NotificationMessage};
@@ -15,6 +15,8 @@ ghost use Rattle.std.specs.Int.{w64};
 ghost use Rattle.subscription.specs.Items.{Told, is_disabled};
 ghost use Rattle.set_model.specs.declared.source.Change.{Change};
 ghost use Rattle.subscription.specs.Sources.{GiveLast, IsRun, known_after};
+ghost use Rattle.subscription.specs.Linked.{AreLinked, last_change};
+ghost use Rattle.set_model.specs.Source.{last_of, of_item};
 ghost use Rattle.subscription.specs.Seen.{AreTellable, entries_seen, entry_in, seen};
 ghost use Rattle.subscription.specs.Sendings.{data_count, data_sent, number_of, sendings};
 ghost use Rattle.subscription.specs.State.{ItemState, SubState};
@@ -48,6 +50,23 @@ pub fn streams_are_of_the_source()
         → GiveLast spec start first calls → item_of id (state_of spec start calls).items ≡ Some item
         → is_disabled item.mode ≡ true
         → (item.queue.entries ≡ []) × (stream_of spec start id calls ≡ no_stream) }
+{}
+
+/// Of two neighbours among all that messages told of an item's stream and what its queue holds, in one message or in
+/// two, both are changes of the item's node, the later one behind the former; and directly behind it where it isn't
+/// marked, in a queue of two places or more. The last of them is the node's last change: so what comes next is linked
+/// too.
+pub fn neighbours_are_linked()
+    ensures linked { (spec : SubSpec) (start : ℕ) (first : List Change) (calls : List Call) (id : ℕ) (item : ItemState)
+        → AreAllowed calls → GiveLast spec start first calls
+        → item_of id (state_of spec start calls).items ≡ Some item → is_disabled item.mode ≡ false
+        → AreLinked item.queue.size (of_item item.node (known_after first calls))
+        ((stream_of spec start id calls).given ++ item.queue.entries) }
+    ensures ends { (spec : SubSpec) (start : ℕ) (first : List Change) (calls : List Call) (id : ℕ) (item : ItemState)
+        → AreAllowed calls → GiveLast spec start first calls
+        → item_of id (state_of spec start calls).items ≡ Some item → is_disabled item.mode ≡ false
+        → last_change ((stream_of spec start id calls).given ++ item.queue.entries)
+        ≡ last_of item.node (known_after first calls) }
 {}
 
 /// The k-th data message, k from 1, has the number 1 + (k - 1) mod (2^32 - 1). A keep-alive has the number of the data

@@ -12,7 +12,8 @@ mod spec;
 pub use cycle::Cycle;
 pub use laws::{
     entries_are_told, entries_leave_in_order, ids_rise, keep_alives_are_exact, lifetimes_are_exact,
-    messages_are_numbered, sent_messages_are_kept, streams_are_of_the_source,
+    messages_are_numbered, neighbours_are_linked, sent_messages_are_kept,
+    streams_are_of_the_source,
 };
 pub use publishing::Subscription;
 pub use spec::{ItemSpec, MOST_ITEMS, SubSpec};

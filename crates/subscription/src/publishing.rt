@@ -264,6 +264,27 @@ impl Subscription {
         self.next
     }
 
+    /// What it was made or last modified with.
+    pub fn spec(&self) -> SubSpec
+        ensures { result ≡ self.now.spec }
+    {
+        self.spec
+    }
+
+    /// How many items it has.
+    pub fn len(&self) -> usize
+        ensures { result ≡ length self.now.items }
+    {
+        self.items.len()
+    }
+
+    /// How many ids were given to items, which is also the last one.
+    pub fn given(&self) -> u32
+        ensures { result ≡ self.now.given }
+    {
+        self.given
+    }
+
     /// The node of the item of an id; none exactly where there is no such item.
     pub fn node(&self, id: u32) -> Option<u8>
         ensures { result ≡ node_of (item_of id self.now.items) }
