@@ -75,6 +75,36 @@ impl Calls {
         Ok(())
     }
 
+    /// Feeds the nodes 1 to 64 so many changes each.
+    fn feed_nodes(&mut self, count: i64) {
+        for node in 1..=64 {
+            self.feed_each(node, 1, count);
+        }
+    }
+
+    /// Publishes so many times.
+    fn publish_often(&mut self, alloc: Global, count: u32) -> Result<(), Stop> {
+        for _ in 0..count {
+            self.sub.publish(alloc, 0)?;
+        }
+        Ok(())
+    }
+
+    /// Feeds the nodes 1 to 64 so many changes each and publishes so many times, again and again.
+    fn run_rounds(
+        &mut self,
+        alloc: Global,
+        rounds: u32,
+        changes: i64,
+        messages: u32,
+    ) -> Result<(), Stop> {
+        for _ in 0..rounds {
+            self.feed_nodes(changes);
+            self.publish_often(alloc, messages)?;
+        }
+        Ok(())
+    }
+
     fn put_due(&self, alloc: Global, to: &mut String) -> Result<(), Stop> {
         match self.sub.due() {
             Some(due) => put_number(alloc, to, due),
@@ -134,6 +164,9 @@ impl Calls {
             ["feed", node, at, value] => self.sub.feed(change(number(node)?, at, value)?),
             ["feeds", node, first, last] => {
                 self.feed_each(number(node)?, number(first)?, number(last)?);
+            }
+            ["rounds", rounds, changes, messages] => {
+                self.run_rounds(alloc, number(rounds)?, number(changes)?, number(messages)?)?;
             }
             ["publishes", node, count] => self.publish_each(alloc, number(node)?, number(count)?)?,
             _ => return Err(Stop::BadLine),
