@@ -12,7 +12,7 @@ use Rattle.ua_channel.specs.declared.heard.Heard.TheVariants as said
 use Rattle.ua_channel.specs.declared.wire.Order.{Order}
 use Rattle.ua_channel.specs.declared.wire.Order.TheVariants as order
 use Rattle.ua_channel.specs.State.{ChannelState, kept, kept_by, shut}
-use Rattle.ua_channel.specs.Hearing.{Hearing, hearing, with_assembly}
+use Rattle.ua_channel.specs.Hearing.{hearing, with_assembly}
 use Rattle.ua_channel.specs.Orders.{obeyed, obeyed_all, put_on}
 use Rattle.ua_channel.specs.Node.{Deafens, NodeState, after_hearing, answered, deaf, framed_node, node_after, settled, stepped, told, told_if, with_fault, with_frame, with_frames}
 

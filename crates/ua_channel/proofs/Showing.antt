@@ -1,10 +1,10 @@
 -- An end over messages shows the end over bytes.
-use Rattle.std.proofs.Common.{◌≡◌, ◌⊎◌, ℕ, ◌^◌, ◌<◌, Bool, true, false, cond, List, [], ◌∷◌, ◌++◌, map, refl, sym, ap, subst, ◌∙◌, append_assoc, inl, inr}
+use Rattle.std.proofs.Common.{◌≡◌, ◌⊎◌, ℕ, Bool, true, false, cond, List, [], ◌∷◌, ◌++◌, map, refl, sym, ap, subst, ◌∙◌, append_assoc, inl, inr}
 use Rattle.std.proofs.lemmas.List.{append-nil}
 use Rattle.ua_chunks.specs.Assembly.{Tokens, tokens_of}
-use Rattle.ua_chunks.specs.Sending.{IsSending, Sending}
+use Rattle.ua_chunks.specs.Sending.{IsSending}
 use Rattle.ua_chunks.specs.Traffic.{renewed_tokens}
-use Rattle.ua_chunks.proofs.Putting.{limits_send, new_sends, put_sends, renewed_sends}
+use Rattle.ua_chunks.proofs.Putting.{limits_send, put_sends, renewed_sends}
 use Rattle.ua_channel.specs.declared.ear.Ear.{Ear}
 use Rattle.ua_channel.specs.declared.heard.Heard.{Heard}
 use Rattle.ua_channel.specs.declared.heard.Heard.TheVariants as said
@@ -12,11 +12,11 @@ use Rattle.ua_channel.specs.declared.wire.Order.{Order}
 use Rattle.ua_channel.specs.declared.wire.Order.TheVariants as order
 use Rattle.ua_channel.specs.State.{ChannelState, WireState, is_deaf}
 use Rattle.ua_channel.specs.Orders.{obeyed, obeyed_all, put_on, renewed_for}
-use Rattle.ua_channel.specs.Messages.{MessageState, hearing_of, is_deaf_end, message_after, message_told, no_tokens, obeyed_message, obeyed_messages, settled_messages}
+use Rattle.ua_channel.specs.Messages.{MessageState, hearing_of, is_deaf_end, message_after, message_told, no_tokens, obeyed_message, obeyed_messages}
 use Rattle.ua_channel.specs.Arriving.{AreLawful, Chain, Expects, Follows, IsLawfulOrder, IsSent, Sent, Shows, after_order, after_sent, bytes_of, heard_in, heard_next, past, sent_bytes}
-use Rattle.ua_channel.specs.Node.{Deafens, NodeState, answered, deaf, settled, told}
-use Rattle.ua_channel.proofs.Cutting.{settled_deaf, settled_open, settled_shut, shut_node}
-use Rattle.ua_channel.proofs.Coming.{Outcome, hears_it, next_deaf, next_open, true_false}
+use Rattle.ua_channel.specs.Node.{Deafens, NodeState, answered, deaf, told}
+use Rattle.ua_channel.proofs.Cutting.{settled_open, settled_shut, shut_node}
+use Rattle.ua_channel.proofs.Coming.{hears_it, next_deaf, next_open, true_false}
 
 -- ---- orders change nothing of what is awaited
 

@@ -1,5 +1,5 @@
 -- What an end does by orders: messages put, limits learned, a channel renewed (OPC 10000-6, 6.7).
-use Rattle.std.specs.Prelude.{◌≡◌, ◌<◌, ℕ, Bool, true, false, ◌||◌, nat_le, List, [], ◌∷◌, ◌++◌, length, Result, Ok, Err}
+use Rattle.std.specs.Prelude.{◌≡◌, ℕ, Bool, true, false, ◌||◌, nat_le, List, [], ◌∷◌, ◌++◌, length, Result, Ok, Err}
 use Rattle.ua_chunks.specs.declared.frame.Kind.{Kind}
 use Rattle.ua_chunks.specs.declared.frame.Kind.TheVariants as kind
 use Rattle.ua_chunks.specs.Assembly.{renewed}
@@ -8,7 +8,7 @@ use Rattle.ua_channel.specs.declared.fault.ChannelFault.{ChannelFault}
 use Rattle.ua_channel.specs.declared.fault.ChannelFault.TheVariants as faults
 use Rattle.ua_channel.specs.declared.wire.Order.{Order}
 use Rattle.ua_channel.specs.declared.wire.Order.TheVariants as order
-use Rattle.ua_channel.specs.State.{ChannelState, LimitState, WireState}
+use Rattle.ua_channel.specs.State.{ChannelState, WireState}
 
 -- ---- how much is put
 

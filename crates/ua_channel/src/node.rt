@@ -1,10 +1,9 @@
-ghost use Rattle.std.specs.Prelude.{◌≡◌, ◌++◌, ℕ, List, OnOk};
+ghost use Rattle.std.specs.Prelude.{◌≡◌, ◌++◌, ℕ, List, OnOk, Some};
 ghost use Rattle.ua_channel.specs.declared.ear.Ear.{Ear};
 ghost use Rattle.ua_channel.specs.declared.heard.Heard.{Heard};
-ghost use Rattle.ua_channel.specs.declared.heard.Heard.TheVariants as said;
 ghost use Rattle.ua_channel.specs.declared.wire.Order.{Order};
-ghost use Rattle.ua_channel.specs.Hearing.{fed_on};
-ghost use Rattle.ua_channel.specs.Node.{deaf, node_after, node_of, settled, stepped, told, told_if, with_fault, with_frame, with_frames};
+ghost use Rattle.ua_channel.specs.Node.{node_after, node_of, settled, stepped, told, with_fault, with_frame};
+ghost use Rattle.ua_channel.specs.Node.{with_frames};
 ghost use Rattle.ua_channel.specs.Orders.{obeyed_all};
 
 use crate::channel::Channel;

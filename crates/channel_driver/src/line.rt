@@ -1,0 +1,245 @@
+//! One line and its answer.
+
+use crate::digits::{bytes_of, number, put_bytes};
+use crate::echo::Echo;
+use crate::stop::Stop;
+use std::alloc::Global;
+use ua_channel::{Channel, ChannelFault, Channels, Core, Ear, take_bytes};
+
+/// An end with its core.
+#[derive(Drop)]
+struct End {
+    echo: Echo,
+    channel: Channel,
+    refused: Option<(u64, u64)>,
+}
+
+/// What an end takes first, by a word.
+fn ear_of(word: &str) -> Result<Ear, Stop> {
+    match word {
+        "server" => Ok(Ear::Hello),
+        "client" => Ok(Ear::Acknowledge),
+        _ => Err(Stop::BadLine),
+    }
+}
+
+impl End {
+    fn new(alloc: Global, ear: Ear) -> End {
+        End {
+            echo: Echo {
+                ear,
+                channel: 0,
+                token: 0,
+            },
+            channel: Channel::new(alloc),
+            refused: None,
+        }
+    }
+
+    /// Takes a piece.
+    fn take(&mut self, alloc: Global, bytes: &[u8]) -> Result<(), Stop> {
+        match take_bytes(alloc, &mut self.echo, 1, &mut self.channel, bytes) {
+            Ok(()) => Ok(()),
+            Err(ChannelFault::TooLarge { size, limit }) => {
+                self.refused = Some((size, limit));
+                Ok(())
+            }
+            Err(ChannelFault::OutOfMemory) => Err(Stop::OutOfMemory),
+        }
+    }
+
+    /// Says what was put, what is held and which frames are taken next.
+    fn tell(&self, alloc: Global, to: &mut String) -> Result<(), Stop> {
+        put_bytes(alloc, self.channel.out(), to)?;
+        let held = self.channel.held(self.echo.ear);
+        let ear = self.echo.ear;
+        to.push_str(&format!(in alloc; " / held {held} {ear:?}")?)?;
+        if let Some((size, limit)) = self.refused {
+            to.push_str(&format!(in alloc; " / {size} of {limit}")?)?;
+        }
+        Ok(())
+    }
+}
+
+/// What an end says of these pieces.
+fn said(alloc: Global, ear: Ear, first: &[u8], second: &[u8]) -> Result<String, Stop> {
+    let mut end = End::new(alloc, ear);
+    end.take(alloc, first)?;
+    end.take(alloc, second)?;
+    let mut text = String::new(alloc);
+    end.tell(alloc, &mut text)?;
+    Ok(text)
+}
+
+/// What an end says of these bytes one by one.
+fn said_singly(alloc: Global, ear: Ear, bytes: &[u8]) -> Result<String, Stop> {
+    let mut end = End::new(alloc, ear);
+    for byte in bytes {
+        end.take(alloc, &[*byte])?;
+    }
+    let mut text = String::new(alloc);
+    end.tell(alloc, &mut text)?;
+    Ok(text)
+}
+
+/// Says what comes of all bytes at once, and at which cuts something else comes.
+fn tell_cuts(alloc: Global, ear: Ear, bytes: &[u8], to: &mut String) -> Result<(), Stop> {
+    let whole = said(alloc, ear, bytes, &[])?;
+    to.push_str(&whole)?;
+    let singly = said_singly(alloc, ear, bytes)?;
+    if singly.as_str() != whole.as_str() {
+        to.push_str(" / otherwise one by one")?;
+    }
+    for place in 0..bytes.len() {
+        let (first, second) = bytes.split_at(place);
+        let cut = said(alloc, ear, first, second)?;
+        if cut.as_str() != whole.as_str() {
+            to.push_str(&format!(in alloc; " / otherwise at {place}")?)?;
+        }
+    }
+    Ok(())
+}
+
+/// Takes the words as pieces.
+fn tell_pieces(alloc: Global, ear: Ear, pieces: &[&str], to: &mut String) -> Result<(), Stop> {
+    let mut end = End::new(alloc, ear);
+    for piece in pieces {
+        let bytes = bytes_of(alloc, &[*piece])?;
+        end.take(alloc, &bytes)?;
+    }
+    end.tell(alloc, to)
+}
+
+// ---- many connections
+
+/// Puts a message of this request at the end of a number, by taking it out and putting it back.
+fn put_at(alloc: Global, channels: &mut Channels, count: u32, to: &mut String) -> Result<(), Stop> {
+    if !channels.contains(count) {
+        to.push_str("none")?;
+        return Ok(());
+    }
+    let mut channel = channels.swap(count, Channel::new(alloc));
+    let mut echo = Echo {
+        ear: Ear::Hello,
+        channel: 0,
+        token: 0,
+    };
+    let answer = take_bytes(
+        alloc,
+        &mut echo,
+        count,
+        &mut channel,
+        &[0, 0, 0, 0, 0, 0, 0, 0],
+    );
+    let size = channel.out().len();
+    channels.swap(count, channel);
+    match answer {
+        Ok(()) => to.push_str(&format!(in alloc; "{size}")?)?,
+        Err(_) => return Err(Stop::OutOfMemory),
+    }
+    Ok(())
+}
+
+/// Says how many bytes wait at the end of a number.
+fn tell_at(alloc: Global, channels: &Channels, count: u32, to: &mut String) -> Result<(), Stop> {
+    match channels.at(count) {
+        Some(channel) => {
+            let size = channel.out().len();
+            to.push_str(&format!(in alloc; "{size}")?)?;
+        }
+        None => to.push_str("none")?,
+    }
+    Ok(())
+}
+
+fn do_step(
+    alloc: Global,
+    channels: &mut Channels,
+    verb: &str,
+    count: u32,
+    to: &mut String,
+) -> Result<(), Stop> {
+    match verb {
+        "open" => {
+            if channels.contains(count) {
+                to.push_str("there")?;
+            } else {
+                channels.open(alloc, count)?;
+                to.push_str("opened")?;
+            }
+        }
+        "close" => match channels.close(count) {
+            Some(channel) => {
+                let size = channel.out().len();
+                to.push_str(&format!(in alloc; "closed {size}")?)?;
+            }
+            None => to.push_str("none")?,
+        },
+        "put" => put_at(alloc, channels, count, to)?,
+        "at" => tell_at(alloc, channels, count, to)?,
+        _ => return Err(Stop::BadLine),
+    }
+    Ok(())
+}
+
+/// Does the steps with the ends of a node: opens, closes, puts an error at one, or says how much waits there.
+fn tell_ends(alloc: Global, steps: &[&str], to: &mut String) -> Result<(), Stop> {
+    let mut channels = Channels::new(alloc);
+    let mut is_first = true;
+    for step in steps {
+        let Some((verb, count)) = step.split_once(',') else {
+            return Err(Stop::BadLine);
+        };
+        if !is_first {
+            to.push_str(" / ")?;
+        }
+        is_first = false;
+        do_step(alloc, &mut channels, verb, number(count)?, to)?;
+    }
+    Ok(())
+}
+
+/// Opens so many connections, and says how many then stand at their numbers, and how many after each second was closed.
+fn tell_many(alloc: Global, count: u32, to: &mut String) -> Result<(), Stop> {
+    let mut channels = Channels::new(alloc);
+    for number in 0..count {
+        if !channels.contains(number) {
+            channels.open(alloc, number)?;
+        }
+    }
+    let all = standing(&channels, count);
+    for number in 0..count {
+        if number % 2 == 1 {
+            channels.close(number);
+        }
+    }
+    let left = standing(&channels, count);
+    to.push_str(&format!(in alloc; "{all} {left}")?)?;
+    Ok(())
+}
+
+/// How many of the first numbers have a connection.
+fn standing(channels: &Channels, count: u32) -> u32 {
+    let mut found: u32 = 0;
+    for number in 0..count {
+        if channels.contains(number) {
+            found = found.saturating_add(1);
+        }
+    }
+    found
+}
+
+/// Answers a line of these words.
+pub(crate) fn answer(alloc: Global, words: &[&str], to: &mut String) -> Result<(), Stop> {
+    match words {
+        ["cuts", role, digits @ ..] => {
+            let ear = ear_of(role)?;
+            let bytes = bytes_of(alloc, digits)?;
+            tell_cuts(alloc, ear, &bytes, to)
+        }
+        ["pieces", role, pieces @ ..] => tell_pieces(alloc, ear_of(role)?, pieces, to),
+        ["ends", steps @ ..] => tell_ends(alloc, steps, to),
+        ["many", count] => tell_many(alloc, number(count)?, to),
+        _ => Err(Stop::BadLine),
+    }
+}
