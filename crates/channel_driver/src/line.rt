@@ -1,17 +1,21 @@
 //! One line and its answer.
 
+ghost use Rattle.std.specs.Prelude.{length};
+ghost use Rattle.ua_channel.specs.State.{MayCarry};
+
 use crate::digits::{bytes_of, number, put_bytes};
 use crate::echo::Echo;
 use crate::stop::Stop;
 use std::alloc::Global;
-use ua_channel::{Channel, ChannelFault, Channels, Core, Ear, take_bytes};
+use ua_base::OutOfMemory;
+use ua_channel::{Channel, ChannelFault, Channels, Ear, Limits, Order, Wire, take_bytes};
+use ua_chunks::Kind;
 
 /// An end with its core.
 #[derive(Drop)]
 struct End {
     echo: Echo,
     channel: Channel,
-    refused: Option<(u64, u64)>,
 }
 
 /// What an end takes first, by a word.
@@ -32,20 +36,13 @@ impl End {
                 token: 0,
             },
             channel: Channel::new(alloc),
-            refused: None,
         }
     }
 
     /// Takes a piece.
     fn take(&mut self, alloc: Global, bytes: &[u8]) -> Result<(), Stop> {
-        match take_bytes(alloc, &mut self.echo, 1, &mut self.channel, bytes) {
-            Ok(()) => Ok(()),
-            Err(ChannelFault::TooLarge { size, limit }) => {
-                self.refused = Some((size, limit));
-                Ok(())
-            }
-            Err(ChannelFault::OutOfMemory) => Err(Stop::OutOfMemory),
-        }
+        take_bytes(alloc, &mut self.echo, 1, &mut self.channel, bytes)?;
+        Ok(())
     }
 
     /// Says what was put, what is held and which frames are taken next.
@@ -54,9 +51,6 @@ impl End {
         let held = self.channel.held(self.echo.ear);
         let ear = self.echo.ear;
         to.push_str(&format!(in alloc; " / held {held} {ear:?}")?)?;
-        if let Some((size, limit)) = self.refused {
-            to.push_str(&format!(in alloc; " / {size} of {limit}")?)?;
-        }
         Ok(())
     }
 }
@@ -110,6 +104,68 @@ fn tell_pieces(alloc: Global, ear: Ear, pieces: &[&str], to: &mut String) -> Res
     end.tell(alloc, to)
 }
 
+/// So many bytes.
+fn sevens(alloc: Global, size: usize) -> Result<Vec<u8>, OutOfMemory> {
+    let mut bytes = Vec::new(alloc);
+    for _ in 0..size {
+        bytes.push(7)?;
+    }
+    Ok(bytes)
+}
+
+/// The channel's answer to an order to put so many bytes with these limits: how many bytes were put, how many a body may
+/// have, whether these were said to fit, and the size and the limit where they were refused.
+fn tell_put(
+    alloc: Global,
+    kind: &str,
+    numbers: [u32; 3],
+    size: usize,
+    to: &mut String,
+) -> Result<(), Stop> {
+    let [frame, max_message, max_chunks] = numbers;
+    if frame < 8192 {
+        return Err(Stop::BadLine);
+    }
+    let limits = Limits::new(frame, max_message, max_chunks);
+    let body = sevens(alloc, size)?;
+    match kind {
+        "MSG" => put_limited(alloc, Kind::Msg, limits, body, to),
+        "OPN" if body.len() <= 4096 => put_limited(alloc, Kind::Opn, limits, body, to),
+        "CLO" if body.len() <= 4096 => put_limited(alloc, Kind::Clo, limits, body, to),
+        "ERR" if body.len() <= 4096 => put_limited(alloc, Kind::Err, limits, body, to),
+        _ => Err(Stop::BadLine),
+    }
+}
+
+/// Puts a body with these limits, and tells the answer.
+fn put_limited(
+    alloc: Global,
+    kind: Kind,
+    limits: Limits,
+    body: Vec<u8>,
+    to: &mut String,
+) -> Result<(), Stop>
+    requires { MayCarry kind (length body.items) }
+{
+    let mut channel = Channel::new(alloc);
+    if channel.obey(alloc, &Order::Limit(limits)).is_err() {
+        return Err(Stop::OutOfMemory);
+    }
+    let most = channel.most_body();
+    let fits = channel.fits(kind, body.len());
+    let answer = channel.obey(alloc, &Order::Put(Wire::new(kind, 1, 1, 1, body)));
+    let count = channel.out().len();
+    to.push_str(&format!(in alloc; "{count} bytes, {most} at most, fits {fits}")?)?;
+    match answer {
+        Ok(()) => Ok(()),
+        Err(ChannelFault::TooLarge { size, limit }) => {
+            to.push_str(&format!(in alloc; ", {size} of {limit}")?)?;
+            Ok(())
+        }
+        Err(ChannelFault::OutOfMemory) => Err(Stop::OutOfMemory),
+    }
+}
+
 // ---- many connections
 
 /// Puts a message of this request at the end of a number, by taking it out and putting it back.
@@ -124,19 +180,10 @@ fn put_at(alloc: Global, channels: &mut Channels, count: u32, to: &mut String) -
         channel: 0,
         token: 0,
     };
-    let answer = take_bytes(
-        alloc,
-        &mut echo,
-        count,
-        &mut channel,
-        &[0, 0, 0, 0, 0, 0, 0, 0],
-    );
+    take_bytes(alloc, &mut echo, count, &mut channel, &[0; 8])?;
     let size = channel.out().len();
     channels.swap(count, channel);
-    match answer {
-        Ok(()) => to.push_str(&format!(in alloc; "{size}")?)?,
-        Err(_) => return Err(Stop::OutOfMemory),
-    }
+    to.push_str(&format!(in alloc; "{size}")?)?;
     Ok(())
 }
 
@@ -238,6 +285,10 @@ pub(crate) fn answer(alloc: Global, words: &[&str], to: &mut String) -> Result<(
             tell_cuts(alloc, ear, &bytes, to)
         }
         ["pieces", role, pieces @ ..] => tell_pieces(alloc, ear_of(role)?, pieces, to),
+        ["put", kind, frame, max_message, max_chunks, size] => {
+            let numbers = [number(frame)?, number(max_message)?, number(max_chunks)?];
+            tell_put(alloc, kind, numbers, number(size)?, to)
+        }
         ["ends", steps @ ..] => tell_ends(alloc, steps, to),
         ["many", count] => tell_many(alloc, number(count)?, to),
         _ => Err(Stop::BadLine),
