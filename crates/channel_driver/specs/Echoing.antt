@@ -11,6 +11,7 @@ use Rattle.ua_channel.specs.declared.heard.Heard.TheVariants as said
 use Rattle.ua_channel.specs.declared.wire.Order.{Order}
 use Rattle.ua_channel.specs.declared.wire.Order.TheVariants as order
 use Rattle.channel_driver.specs.declared.echo.Echo.{Echo}
+use Rattle.channel_driver.specs.declared.relay.Relay.{Relay}
 
 -- an error ends it
 abbrev pub refused : ℕ → Echo → Echo × List Order
@@ -73,3 +74,19 @@ answer_of (said.Message request body) e = (
 )
 answer_of said.Close e = (record e { ear = ear.Deaf }, [])
 answer_of (said.Fault code) e = refused code e
+
+-- ---- a hub for the rows
+
+-- each message is given to the connection of the next number, until a fault or a CLO comes anywhere
+abbrev pub relay_ear : Relay → Ear
+relay_ear r = if r.is_deaf then ear.Deaf else ear.Open
+
+abbrev pub relayed : ℕ → Heard → Relay → Relay × List (ℕ × Order)
+relayed conn (said.Greeting body) r = (r, [])
+relayed conn (said.Opening channel follows request body) r = (r, [])
+relayed conn (said.Message request body) r = (
+  r,
+  (min (conn + 1) (2 ^ 32 - 1), order.Put (record { kind = kind.Msg; channel = 0; token = 0; request = request; body = body })) ∷ [],
+)
+relayed conn said.Close r = (record { is_deaf = true }, [])
+relayed conn (said.Fault code) r = (record { is_deaf = true }, [])

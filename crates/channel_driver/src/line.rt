@@ -5,10 +5,11 @@ ghost use Rattle.ua_channel.specs.State.{MayCarry};
 
 use crate::digits::{bytes_of, number, put_bytes};
 use crate::echo::Echo;
+use crate::relay::Relay;
 use crate::stop::Stop;
 use std::alloc::Global;
 use ua_base::OutOfMemory;
-use ua_channel::{Channel, ChannelFault, Channels, Ear, Limits, Order, Wire, take_bytes};
+use ua_channel::{Channel, ChannelFault, Channels, Ear, Limits, Order, Rest, Wire, take_bytes};
 use ua_chunks::Kind;
 
 /// An end with its core.
@@ -246,6 +247,49 @@ fn tell_ends(alloc: Global, steps: &[&str], to: &mut String) -> Result<(), Stop>
     Ok(())
 }
 
+/// The ends 0 to 3 of a relay: pieces come for them by their numbers, and what each has put is said at the end.
+fn tell_relay(alloc: Global, steps: &[&str], to: &mut String) -> Result<(), Stop> {
+    let mut channels = Channels::new(alloc);
+    for number in 0..4 {
+        if !channels.contains(number) {
+            channels.open(alloc, number)?;
+        }
+    }
+    let mut rest = Rest {
+        hub: Relay { is_deaf: false },
+        channels,
+    };
+    relay_all(alloc, &mut rest, steps)?;
+    for number in 0..4 {
+        if number > 0 {
+            to.push_str(" / ")?;
+        }
+        tell_out(alloc, &rest.channels, number, to)?;
+    }
+    Ok(())
+}
+
+/// Gives pieces to the ends of a relay.
+fn relay_all(alloc: Global, rest: &mut Rest<Relay>, steps: &[&str]) -> Result<(), Stop> {
+    for step in steps {
+        let Some((count, digits)) = step.split_once(',') else {
+            return Err(Stop::BadLine);
+        };
+        let bytes = bytes_of(alloc, &[digits])?;
+        rest.take(alloc, number(count)?, &bytes)?;
+    }
+    Ok(())
+}
+
+/// Says what the end of a number has put.
+fn tell_out(alloc: Global, channels: &Channels, count: u32, to: &mut String) -> Result<(), Stop> {
+    match channels.at(count) {
+        Some(channel) => put_bytes(alloc, channel.out(), to)?,
+        None => to.push_str("none")?,
+    }
+    Ok(())
+}
+
 /// Opens so many connections, and says how many then stand at their numbers, and how many after each second was closed.
 fn tell_many(alloc: Global, count: u32, to: &mut String) -> Result<(), Stop> {
     let mut channels = Channels::new(alloc);
@@ -290,6 +334,7 @@ pub(crate) fn answer(alloc: Global, words: &[&str], to: &mut String) -> Result<(
             tell_put(alloc, kind, numbers, number(size)?, to)
         }
         ["ends", steps @ ..] => tell_ends(alloc, steps, to),
+        ["relay", steps @ ..] => tell_relay(alloc, steps, to),
         ["many", count] => tell_many(alloc, number(count)?, to),
         _ => Err(Stop::BadLine),
     }

@@ -6,6 +6,7 @@
 mod digits;
 mod echo;
 mod line;
+mod relay;
 mod stop;
 
 use line::answer;

@@ -39,7 +39,11 @@ pub trait Core: Drop {
 }
 
 /// Obeys an order. A message that doesn't fit isn't put.
-fn obey_one(alloc: Global, channel: &mut Channel, order: &Order) -> Result<(), OutOfMemory>
+pub(crate) fn obey_one(
+    alloc: Global,
+    channel: &mut Channel,
+    order: &Order,
+) -> Result<(), OutOfMemory>
     ensures { OnOk result (channel.new ≡ obeyed order.now channel.old) }
 {
     match channel.obey(alloc, order) {
