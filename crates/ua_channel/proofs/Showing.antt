@@ -1,30 +1,47 @@
 -- An end over messages shows the end over bytes.
-use Rattle.std.proofs.Common.{◌≡◌, ◌⊎◌, ℕ, ◌^◌, ◌<◌, Bool, true, false, cond, List, [], ◌∷◌, ◌++◌, map, refl, sym, ap, subst, ◌∙◌, append_assoc, inl, inr}
+use Rattle.std.proofs.Common.{◌≡◌, ◌⊎◌, ℕ, Bool, true, false, cond, List, [], ◌∷◌, ◌++◌, map, refl, sym, ap, subst, ◌∙◌, append_assoc, inl, inr}
 use Rattle.std.proofs.lemmas.List.{append-nil}
-use Rattle.ua_chunks.specs.Assembly.{Tokens, tokens_of}
+use Rattle.ua_chunks.specs.Assembly.{Tokens, takes_number, tokens_of}
+use Rattle.ua_chunks.specs.Framing.{IsBetween}
 use Rattle.ua_chunks.specs.Sending.{IsSending, Sending}
 use Rattle.ua_chunks.specs.Traffic.{renewed_tokens}
-use Rattle.ua_chunks.proofs.Putting.{limits_send, new_sends, put_sends, renewed_sends}
+use Rattle.ua_chunks.proofs.Putting.{limits_send, put_sends, renewed_sends}
 use Rattle.ua_channel.specs.declared.ear.Ear.{Ear}
 use Rattle.ua_channel.specs.declared.heard.Heard.{Heard}
 use Rattle.ua_channel.specs.declared.heard.Heard.TheVariants as said
 use Rattle.ua_channel.specs.declared.wire.Order.{Order}
 use Rattle.ua_channel.specs.declared.wire.Order.TheVariants as order
 use Rattle.ua_channel.specs.State.{ChannelState, WireState, is_deaf}
-use Rattle.ua_channel.specs.Orders.{obeyed, obeyed_all, put_on, renewed_for}
-use Rattle.ua_channel.specs.Messages.{MessageState, hearing_of, is_deaf_end, message_after, message_told, no_tokens, obeyed_message, obeyed_messages, settled_messages}
+use Rattle.ua_channel.specs.Orders.{done, fits_in, obeyed, obeyed_all, put_on, renewed_for, undone}
+use Rattle.ua_channel.specs.Messages.{MessageState, hearing_of, is_deaf_end, message_after, message_told, no_tokens, obeyed_message, obeyed_messages}
 use Rattle.ua_channel.specs.Arriving.{AreLawful, Chain, Expects, Follows, IsLawfulOrder, IsSent, Sent, Shows, after_order, after_sent, bytes_of, heard_in, heard_next, past, sent_bytes}
-use Rattle.ua_channel.specs.Node.{Deafens, NodeState, answered, deaf, settled, told}
-use Rattle.ua_channel.proofs.Cutting.{settled_deaf, settled_open, settled_shut, shut_node}
-use Rattle.ua_channel.proofs.Coming.{Outcome, hears_it, next_deaf, next_open, true_false}
+use Rattle.ua_channel.specs.Node.{Deafens, NodeState, answered, deaf, told}
+use Rattle.ua_channel.proofs.Cutting.{settled_open, settled_shut, shut_node}
+use Rattle.ua_channel.proofs.Coming.{hears_it, next_deaf, next_open, true_false}
 
 -- ---- orders change nothing of what is awaited
 
-expects_one : (o : Order) (next : ℕ) (c : ChannelState) → Expects next c → Expects next (obeyed o c)
+expects_same : (next : ℕ) (c d : ChannelState) → d.framing ≡ c.framing → d.assembly.last ≡ c.assembly.last → d.assembly.chunks ≡ c.assembly.chunks → d.assembly.body ≡ c.assembly.body
+    → d.assembly.fault ≡ c.assembly.fault → Expects next c → Expects next d
+expects_same next c d f l n b e x = record {
+  number = ap (takes_number next) l ∙ x.number;
+  chunks = n ∙ x.chunks;
+  body = b ∙ x.body;
+  fault = e ∙ x.fault;
+  between = subst IsBetween (sym f) x.between;
+}
+
+expects_by : (b : Bool) (o : Order) (next : ℕ) (c : ChannelState) → Expects next c → Expects next (cond b (done o c) (undone o c))
 unfolding put_on
-expects_one (order.Put w) next c x = record { number = x.number; chunks = x.chunks; body = x.body; fault = x.fault; between = x.between }
-expects_one (order.Limit l) next c x = record { number = x.number; chunks = x.chunks; body = x.body; fault = x.fault; between = x.between }
-expects_one (order.Renew channel token) next c x = record { number = x.number; chunks = x.chunks; body = x.body; fault = x.fault; between = x.between }
+expects_by true (order.Put w) next c x = expects_same next c (put_on w c) refl refl refl refl refl x
+expects_by true (order.Limit l) next c x = expects_same next c (done (order.Limit l) c) refl refl refl refl refl x
+expects_by true (order.Renew channel token) next c x = expects_same next c (done (order.Renew channel token) c) refl refl refl refl refl x
+expects_by false (order.Put w) next c x = expects_same next c (undone (order.Put w) c) refl refl refl refl refl x
+expects_by false (order.Limit l) next c x = x
+expects_by false (order.Renew channel token) next c x = x
+
+expects_one : (o : Order) (next : ℕ) (c : ChannelState) → Expects next c → Expects next (obeyed o c)
+expects_one o next c x = expects_by (fits_in o c.sending) o next c x
 
 expects_obeyed : (os : List Order) (next : ℕ) (c : ChannelState) → Expects next c → Expects next (obeyed_all os c)
 expects_obeyed [] next c x = x
@@ -52,7 +69,7 @@ chain_more first next [] m chain e is = (e ∙ sym chain, is, refl)
 chain_more first next (x ∷ sent) m chain e is = (chain.0, chain.1, chain_more (after_sent x).next next sent m chain.2 e is)
 
 puts_message : (first : ℕ) (w : WireState) (c : ChannelState) (out : List WireState) → IsLawfulOrder (order.Put w) c.sending → Puts first c out
-    → Puts first (obeyed (order.Put w) c) (out ++ w ∷ [])
+    → Puts first (done (order.Put w) c) (out ++ w ∷ [])
 unfolding put_on
 puts_message first w c out lawful p =
     let by = renewed_for w c.sending in
@@ -68,33 +85,45 @@ puts_message first w c out lawful p =
     }
 
 module _ {C : Type 0} where
-  puts_one : (first : ℕ) (o : Order) (c : ChannelState) (k : MessageState C) → IsLawfulOrder o c.sending → Puts first c k.out
-      → Puts first (obeyed o c) (obeyed_message o k).out
-  puts_one first (order.Put w) c k lawful p = puts_message first w c k.out lawful p
-  puts_one first (order.Limit l) c k lawful p = record {
+  puts_done : (first : ℕ) (o : Order) (c : ChannelState) (k : MessageState C) → IsLawfulOrder o c.sending → Puts first c k.out
+      → Puts first (done o c) (obeyed_message o k).out
+  puts_done first (order.Put w) c k lawful p = puts_message first w c k.out lawful p
+  puts_done first (order.Limit l) c k lawful p = record {
     sending = limits_send l.size l.max_message l.max_chunks c.sending p.sending lawful;
     sent = p.sent;
     wires = p.wires;
     bytes = p.bytes;
     chain = p.chain;
   }
-  puts_one first (order.Renew channel token) c k lawful p = record { sending = p.sending; sent = p.sent; wires = p.wires; bytes = p.bytes; chain = p.chain }
+  puts_done first (order.Renew channel token) c k lawful p = record { sending = p.sending; sent = p.sent; wires = p.wires; bytes = p.bytes; chain = p.chain }
 
-lawful_next : (o : Order) (os : List Order) (c : ChannelState) → AreLawful os (after_order o c.sending) → AreLawful os (obeyed o c).sending
-unfolding put_on
-lawful_next (order.Put w) os c lawful = lawful
-lawful_next (order.Limit l) os c lawful = lawful
-lawful_next (order.Renew channel token) os c lawful = lawful
+-- what is lawful fits, and is done
+lawful_fits : (o : Order) (s : Sending) → IsLawfulOrder o s → fits_in o s ≡ true
+lawful_fits (order.Put w) s lawful = lawful.4
+lawful_fits (order.Limit l) s lawful = refl
+lawful_fits (order.Renew channel token) s lawful = refl
 
-tokens_put : (w : WireState) (c : ChannelState) → tokens_of (obeyed (order.Put w) c).assembly ≡ tokens_of c.assembly
+lawful_done : (o : Order) (c : ChannelState) → IsLawfulOrder o c.sending → obeyed o c ≡ done o c
+lawful_done o c lawful = ap (λ b. cond b (done o c) (undone o c)) (lawful_fits o c.sending lawful)
+
+lawful_after : (o : Order) (os : List Order) (c : ChannelState) → AreLawful os (after_order o c.sending) → AreLawful os (done o c).sending
 unfolding put_on
-tokens_put w c = refl
+lawful_after (order.Put w) os c lawful = lawful
+lawful_after (order.Limit l) os c lawful = lawful
+lawful_after (order.Renew channel token) os c lawful = lawful
+
+tokens_put : (b : Bool) (w : WireState) (c : ChannelState) → tokens_of (cond b (done (order.Put w) c) (undone (order.Put w) c)).assembly ≡ tokens_of c.assembly
+unfolding put_on
+tokens_put true w c = refl
+tokens_put false w c = refl
 
 module _ {C : Type 0} where
   puts_all : (first : ℕ) (os : List Order) (c : ChannelState) (k : MessageState C) → AreLawful os c.sending → Puts first c k.out
       → Puts first (obeyed_all os c) (obeyed_messages os k).out
   puts_all first [] c k lawful p = p
-  puts_all first (o ∷ os) c k lawful p = puts_all first os (obeyed o c) (obeyed_message o k) (lawful_next o os c lawful.1) (puts_one first o c k lawful.0 p)
+  puts_all first (o ∷ os) c k lawful p =
+      subst (λ (d : ChannelState). Puts first (obeyed_all os d) (obeyed_messages os (obeyed_message o k)).out) (sym (lawful_done o c lawful.0))
+      (puts_all first os (done o c) (obeyed_message o k) (lawful_after o os c lawful.1) (puts_done first o c k lawful.0 p))
 
   core_one : (o : Order) (k : MessageState C) → (obeyed_message o k).core ≡ k.core
   core_one (order.Put w) k = refl
@@ -106,7 +135,7 @@ module _ {C : Type 0} where
   core_kept (o ∷ os) k = core_kept os (obeyed_message o k) ∙ core_one o k
 
   tokens_by : (o : Order) (c : ChannelState) (k : MessageState C) → tokens_of c.assembly ≡ k.tokens → tokens_of (obeyed o c).assembly ≡ (obeyed_message o k).tokens
-  tokens_by (order.Put w) c k e = tokens_put w c ∙ e
+  tokens_by (order.Put w) c k e = tokens_put (fits_in (order.Put w) c.sending) w c ∙ e
   tokens_by (order.Limit l) c k e = e
   tokens_by (order.Renew channel token) c k e = ap (renewed_tokens channel token) e
 
