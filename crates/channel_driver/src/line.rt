@@ -3,10 +3,9 @@
 ghost use Rattle.std.specs.Prelude.{length};
 ghost use Rattle.ua_channel.specs.State.{MayCarry};
 
-use crate::digits::{bytes_of, number, put_bytes};
 use crate::echo::Echo;
 use crate::relay::Relay;
-use crate::stop::Stop;
+use rows::{Driver, Stop, bytes_of, number, put_bytes};
 use std::alloc::Global;
 use ua_base::OutOfMemory;
 use ua_channel::{Channel, ChannelFault, Channels, Ear, Limits, Order, Rest, Wire, take_bytes};
@@ -320,22 +319,27 @@ fn standing(channels: &Channels, count: u32) -> u32 {
     found
 }
 
-/// Answers a line of these words.
-pub(crate) fn answer(alloc: Global, words: &[&str], to: &mut String) -> Result<(), Stop> {
-    match words {
-        ["cuts", role, digits @ ..] => {
-            let ear = ear_of(role)?;
-            let bytes = bytes_of(alloc, digits)?;
-            tell_cuts(alloc, ear, &bytes, to)
+/// Answers lines that speak of ends of connections.
+#[derive(Clone, Copy, Debug)]
+pub(crate) struct Ends;
+
+impl Driver for Ends {
+    fn answer(&mut self, alloc: Global, words: &[&str], to: &mut String) -> Result<(), Stop> {
+        match words {
+            ["cuts", role, digits @ ..] => {
+                let ear = ear_of(role)?;
+                let bytes = bytes_of(alloc, digits)?;
+                tell_cuts(alloc, ear, &bytes, to)
+            }
+            ["pieces", role, pieces @ ..] => tell_pieces(alloc, ear_of(role)?, pieces, to),
+            ["put", kind, frame, max_message, max_chunks, size] => {
+                let numbers = [number(frame)?, number(max_message)?, number(max_chunks)?];
+                tell_put(alloc, kind, numbers, number(size)?, to)
+            }
+            ["ends", steps @ ..] => tell_ends(alloc, steps, to),
+            ["relay", steps @ ..] => tell_relay(alloc, steps, to),
+            ["many", count] => tell_many(alloc, number(count)?, to),
+            _ => Err(Stop::BadLine),
         }
-        ["pieces", role, pieces @ ..] => tell_pieces(alloc, ear_of(role)?, pieces, to),
-        ["put", kind, frame, max_message, max_chunks, size] => {
-            let numbers = [number(frame)?, number(max_message)?, number(max_chunks)?];
-            tell_put(alloc, kind, numbers, number(size)?, to)
-        }
-        ["ends", steps @ ..] => tell_ends(alloc, steps, to),
-        ["relay", steps @ ..] => tell_relay(alloc, steps, to),
-        ["many", count] => tell_many(alloc, number(count)?, to),
-        _ => Err(Stop::BadLine),
     }
 }
