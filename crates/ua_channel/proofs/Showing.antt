@@ -14,7 +14,7 @@ use Rattle.ua_channel.specs.declared.wire.Order.TheVariants as order
 use Rattle.ua_channel.specs.State.{ChannelState, WireState, is_deaf}
 use Rattle.ua_channel.specs.Orders.{done, fits_in, obeyed, obeyed_all, put_on, renewed_for, undone}
 use Rattle.ua_channel.specs.Messages.{MessageState, hearing_of, is_deaf_end, message_after, message_told, no_tokens, obeyed_message, obeyed_messages}
-use Rattle.ua_channel.specs.Arriving.{AreLawful, Chain, Expects, Follows, IsLawfulOrder, IsSent, Sent, Shows, after_order, after_sent, bytes_of, heard_in, heard_next, past, sent_bytes}
+use Rattle.ua_channel.specs.Arriving.{AreLawful, Chain, Expects, Follows, IsLawfulOrder, IsSent, Sent, Mirrors, after_order, after_sent, bytes_of, heard_in, heard_next, past, sent_bytes}
 use Rattle.ua_channel.specs.Node.{Deafens, NodeState, answered, deaf, told}
 use Rattle.ua_channel.proofs.Cutting.{settled_open, settled_shut, shut_node}
 use Rattle.ua_channel.proofs.Coming.{hears_it, next_deaf, next_open, true_false}
@@ -168,20 +168,20 @@ module _ {C : Type 0} (ears : C → Ear) (answer : Heard → C → C × List Ord
 
   told_shows : (b : Bool) (first : ℕ) (h : Heard) (n : NodeState C) (t : Tokens) (out : List WireState) → AreLawful (answer h n.core).1 n.channel.sending → Puts first n.channel out
       → is_deaf (ears (answer h n.core).0) ≡ b → (b ≡ false → tokens_of n.channel.assembly ≡ t)
-      → Shows first (told ears answer h n) (message_told ears answer h (record { core = n.core; tokens = t; out = out }))
+      → Mirrors first (told ears answer h n) (message_told ears answer h (record { core = n.core; tokens = t; out = out }))
   told_shows true first h n t out lawful puts e same =
       let os = (answer h n.core).1 in
       let k0 : MessageState C = record { core = (answer h n.core).0; tokens = t; out = out } in
       let p = puts_all first os n.channel k0 lawful puts in
-      subst (λ x. Shows first x (message_told ears answer h (record { core = n.core; tokens = t; out = out }))) (sym (told_shut h n e))
-      (subst (λ y. Shows first (shut_node ears answer (answered ears answer h n)) y) (sym (message_settles true h n.core t out e))
+      subst (λ x. Mirrors first x (message_told ears answer h (record { core = n.core; tokens = t; out = out }))) (sym (told_shut h n e))
+      (subst (λ y. Mirrors first (shut_node ears answer (answered ears answer h n)) y) (sym (message_settles true h n.core t out e))
       (record { core = sym (core_kept os k0); tokens = refl; sending = p.sending; sent = p.sent; wires = p.wires; bytes = p.bytes; chain = p.chain }))
   told_shows false first h n t out lawful puts e same =
       let os = (answer h n.core).1 in
       let k0 : MessageState C = record { core = (answer h n.core).0; tokens = t; out = out } in
       let p = puts_all first os n.channel k0 lawful puts in
-      subst (λ x. Shows first x (message_told ears answer h (record { core = n.core; tokens = t; out = out }))) (sym (told_open h n e))
-      (subst (λ y. Shows first (answered ears answer h n) y) (sym (message_settles false h n.core t out e))
+      subst (λ x. Mirrors first x (message_told ears answer h (record { core = n.core; tokens = t; out = out }))) (sym (told_open h n e))
+      (subst (λ y. Mirrors first (answered ears answer h n) y) (sym (message_settles false h n.core t out e))
       (record { core = sym (core_kept os k0); tokens = tokens_all os n.channel k0 (same refl); sending = p.sending; sent = p.sent; wires = p.wires; bytes = p.bytes; chain = p.chain }))
 
   -- a fault is no message that goes on
@@ -232,15 +232,15 @@ module _ {C : Type 0} (ears : C → Ear) (answer : Heard → C → C × List Ord
 
   shows_open : (first : ℕ) (m : Sent) (n : NodeState C) (out : List WireState) → deaf ears answer n ≡ false → Deafens ears answer → Follows m n.channel
       → AreLawful (answer (heard_in ears answer m n) n.core).1 n.channel.sending → Puts first n.channel out
-      → Shows first (heard_next ears answer m n) (message_after ears answer m.wire (record { core = n.core; tokens = tokens_of n.channel.assembly; out = out }))
+      → Mirrors first (heard_next ears answer m n) (message_after ears answer m.wire (record { core = n.core; tokens = tokens_of n.channel.assembly; out = out }))
   shows_open first m n out e deafens follows lawful puts =
       let h = heard_in ears answer m n in
       let x = record n { channel = past m n.channel } in
       let k : MessageState C = record { core = n.core; tokens = tokens_of n.channel.assembly; out = out } in
       let t = (hearing_of (ears n.core) m.wire (tokens_of n.channel.assembly)).tokens in
       let p : Puts first x.channel out = record { sending = puts.sending; sent = puts.sent; wires = puts.wires; bytes = puts.bytes; chain = puts.chain } in
-      subst (λ y. Shows first y (message_after ears answer m.wire k)) (sym (next_open ears answer m n e))
-      (subst (λ z. Shows first (told ears answer h x) z) (sym (message_open m.wire k e))
+      subst (λ y. Mirrors first y (message_after ears answer m.wire k)) (sym (next_open ears answer m n e))
+      (subst (λ z. Mirrors first (told ears answer h x) z) (sym (message_open m.wire k e))
       (told_shows (is_deaf (ears (answer h n.core).0)) first h x t out lawful p refl
       (λ d. elim (hears_it ears answer m n e deafens follows).outcome [
         | inl broken ↦ absurd (no_fault h n.core deafens d broken.0 broken.1)
@@ -248,28 +248,28 @@ module _ {C : Type 0} (ears : C → Ear) (answer : Heard → C → C × List Ord
       ])))
 
   shows_by : (b : Bool) (first : ℕ) (m : Sent) (n : NodeState C) (k : MessageState C) → Deafens ears answer → deaf ears answer n ≡ b → (deaf ears answer n ≡ true) ⊎ Follows m n.channel
-      → AreLawful (answer (heard_in ears answer m n) n.core).1 n.channel.sending → Shows first n k
-      → Shows first (heard_next ears answer m n) (message_after ears answer m.wire k)
+      → AreLawful (answer (heard_in ears answer m n) n.core).1 n.channel.sending → Mirrors first n k
+      → Mirrors first (heard_next ears answer m n) (message_after ears answer m.wire k)
   shows_by true first m n k deafens e ready lawful s =
-      subst (λ y. Shows first y (message_after ears answer m.wire k)) (sym (next_deaf ears answer m n e))
-      (subst (λ z. Shows first n z) (sym (message_deaf m.wire k (ap (λ (x : C). is_deaf (ears x)) (sym s.core) ∙ e))) s)
+      subst (λ y. Mirrors first y (message_after ears answer m.wire k)) (sym (next_deaf ears answer m n e))
+      (subst (λ z. Mirrors first n z) (sym (message_deaf m.wire k (ap (λ (x : C). is_deaf (ears x)) (sym s.core) ∙ e))) s)
   shows_by false first m n k deafens e (inl is) lawful s = absurd (true_false ears answer (deaf ears answer n) is e)
   shows_by false first m n k deafens e (inr follows) lawful s =
       let same : k ≡ record { core = n.core; tokens = tokens_of n.channel.assembly; out = k.out } =
       ap (λ (x : C). record { core = x; tokens = k.tokens; out = k.out }) (sym s.core)
       ∙ ap (λ (t : Tokens). record { core = n.core; tokens = t; out = k.out }) (sym s.tokens) in
-      subst (λ z. Shows first (heard_next ears answer m n) (message_after ears answer m.wire z)) (sym same)
+      subst (λ z. Mirrors first (heard_next ears answer m n) (message_after ears answer m.wire z)) (sym same)
       (shows_open first m n k.out e deafens follows lawful (record { sending = s.sending; sent = s.sent; wires = s.wires; bytes = s.bytes; chain = s.chain }))
 
   pub shows_next : (first : ℕ) (m : Sent) (n : NodeState C) (k : MessageState C) → Deafens ears answer → (deaf ears answer n ≡ true) ⊎ Follows m n.channel
-      → AreLawful (answer (heard_in ears answer m n) n.core).1 n.channel.sending → Shows first n k
-      → Shows first (heard_next ears answer m n) (message_after ears answer m.wire k)
+      → AreLawful (answer (heard_in ears answer m n) n.core).1 n.channel.sending → Mirrors first n k
+      → Mirrors first (heard_next ears answer m n) (message_after ears answer m.wire k)
   shows_next first m n k deafens ready lawful s = shows_by (deaf ears answer n) first m n k deafens refl ready lawful s
 
   -- ---- orders and bytes taken
 
-  pub shows_ordered : (first : ℕ) (os : List Order) (n : NodeState C) (k : MessageState C) → AreLawful os n.channel.sending → Shows first n k
-      → Shows first (record n { channel = obeyed_all os n.channel }) (obeyed_messages os k)
+  pub shows_ordered : (first : ℕ) (os : List Order) (n : NodeState C) (k : MessageState C) → AreLawful os n.channel.sending → Mirrors first n k
+      → Mirrors first (record n { channel = obeyed_all os n.channel }) (obeyed_messages os k)
   shows_ordered first os n k lawful s =
       let p = puts_all first os n.channel k lawful (record { sending = s.sending; sent = s.sent; wires = s.wires; bytes = s.bytes; chain = s.chain }) in
       record {
@@ -282,6 +282,6 @@ module _ {C : Type 0} (ears : C → Ear) (answer : Heard → C → C × List Ord
         chain = p.chain;
       }
 
-  pub shows_taken : (first : ℕ) (n : NodeState C) (k : MessageState C) → Shows first n k
-      → Shows n.channel.sending.next (record n { channel = record n.channel { out = [] } }) (record k { out = [] })
+  pub shows_taken : (first : ℕ) (n : NodeState C) (k : MessageState C) → Mirrors first n k
+      → Mirrors n.channel.sending.next (record n { channel = record n.channel { out = [] } }) (record k { out = [] })
   shows_taken first n k s = record { core = s.core; tokens = s.tokens; sending = s.sending; sent = []; wires = refl; bytes = refl; chain = refl }

@@ -130,7 +130,7 @@ module _ {C : Type 0} (ears : C → Ear) (answer : Heard → C → C × List Ord
 
 -- an end over bytes and one over messages: the same core and tokens, and what was put and not taken is the bytes of the
 -- messages, whose numbers go on from `first`
-pub record Shows {C : Type 0} (first : ℕ) (n : NodeState C) (k : MessageState C) : Type 0 where
+pub record Mirrors {C : Type 0} (first : ℕ) (n : NodeState C) (k : MessageState C) : Type 0 where
   pub core : n.core ≡ k.core
   pub tokens : tokens_of n.channel.assembly ≡ k.tokens
   pub sending : IsSending n.channel.sending

@@ -22,16 +22,13 @@ use ua_base::status::{
     BAD_DECODING_ERROR, BAD_SECURITY_POLICY_REJECTED, BAD_TCP_MESSAGE_TYPE_INVALID,
 };
 use ua_chunks::{
-    Assembler, Body, Frame, FrameFault, Framer, Kind, PutFault, Sender, read_opn, read_policy,
-    write_frame,
+    Assembler, Body, Frame, FrameFault, Framer, Kind, NONE_POLICY, PutFault, Sender, read_opn,
+    read_policy, write_frame,
 };
 use ua_values::{UaText, ValueFault};
 
 /// How many bytes an end holds at most of what came and is no whole message.
 pub const MOST_HELD: usize = 1_114_111;
-
-/// The policy of channels that sign and encrypt nothing.
-const NONE_POLICY: &[u8] = b"http://opcfoundation.org/UA/SecurityPolicy#None";
 
 /// One end of a connection: it makes frames of bytes, messages of frames, and bytes of messages.
 #[derive(Debug, Drop)]
