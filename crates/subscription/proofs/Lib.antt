@@ -1,0 +1,9 @@
+mod Counting
+mod Finding
+mod Rising
+mod Rows
+mod Seeing
+mod Sent
+mod Sourcing
+mod Streaming
+mod Telling

@@ -1,0 +1,11 @@
+pub mod State
+pub mod Items
+pub mod Message
+pub mod Cycle
+pub mod Calls
+pub mod History
+pub mod Streams
+pub mod Sendings
+pub mod Counts
+pub mod Seen
+pub mod Sources
