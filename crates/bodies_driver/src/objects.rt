@@ -25,7 +25,7 @@ fn put_object(
 }
 
 /// A kind of structures that stand in objects.
-trait Held: Kind {
+trait Contents: Kind {
     /// Reads the structure in an object.
     fn read(alloc: Global, object: &ExtensionObject) -> Result<Self::Value, BodyFault>;
 }
@@ -40,7 +40,7 @@ impl Kind for Identities {
     }
 }
 
-impl Held for Identities {
+impl Contents for Identities {
     fn read(alloc: Global, object: &ExtensionObject) -> Result<IdentityToken, BodyFault> {
         read_identity(alloc, object)
     }
@@ -56,7 +56,7 @@ impl Kind for Filters {
     }
 }
 
-impl Held for Filters {
+impl Contents for Filters {
     fn read(alloc: Global, object: &ExtensionObject) -> Result<Filter, BodyFault> {
         read_filter(alloc, object)
     }
@@ -72,7 +72,7 @@ impl Kind for Notifications {
     }
 }
 
-impl Held for Notifications {
+impl Contents for Notifications {
     fn read(alloc: Global, object: &ExtensionObject) -> Result<Notification, BodyFault> {
         read_notification(alloc, object)
     }
@@ -88,13 +88,13 @@ impl Kind for SoleObjects {
     }
 }
 
-impl Held for SoleObjects {
+impl Contents for SoleObjects {
     fn read(alloc: Global, object: &ExtensionObject) -> Result<Sole, BodyFault> {
         read_content(alloc, object)
     }
 }
 
-fn tell_content<T: Held>(
+fn tell_content<T: Contents>(
     alloc: Global,
     verb: Verb,
     object: &ExtensionObject,
@@ -108,7 +108,7 @@ where
 }
 
 /// Tells what an object that was read holds; a fault of the object is told behind its word.
-fn tell_read_object<T: Held>(
+fn tell_read_object<T: Contents>(
     alloc: Global,
     verb: Verb,
     read: &Result<(ExtensionObject, usize), ValueFault>,
@@ -130,7 +130,7 @@ where
     }
 }
 
-fn tell_held<T: Held>(alloc: Global, verb: Verb, bytes: &[u8], to: &mut String) -> Result<(), Stop>
+fn tell_held<T: Contents>(alloc: Global, verb: Verb, bytes: &[u8], to: &mut String) -> Result<(), Stop>
 where
     T::Value: Body,
 {

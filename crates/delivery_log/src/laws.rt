@@ -26,7 +26,8 @@ pub fn a_log_can_be_taken_over()
 
 /// The logs of two clients, of which the second took over from the first, are together what the acts of both say.
 pub fn logs_of_both_stand_for_both_histories()
-    ensures { (servers items : ℕ) (first second : List Act) → AreWithin servers items first → AreWithin servers items second
+    ensures { (servers items : ℕ) (first second : List Act) → AreWithin servers items first
+        → AreWithin servers items second
         → StandsFor servers items (second ++ first) (log_of_both servers items first second) }
 {}
 

@@ -42,14 +42,20 @@ pub fn refusals_are_in_order()
 /// and an Int64 0x08 behind the mask of the DataValue, 0x01 for a value alone, 0x05 for one with its source time, and
 /// 0x15 for one with the picoseconds of that too (OPC 10000-6, 5.2.2.16 and 5.2.2.17). An item before its first change sends the mask 0.
 pub fn values_are_sent()
-    ensures server_array { (nodes : Nodes) → Sends nodes (id.Numeric 0 2254) (0x01 ∷ 0x8C ∷ written_array written_text (nodes.uri ∷ [])) }
+    ensures server_array { (nodes : Nodes) → Sends nodes (id.Numeric 0 2254)
+        (0x01 ∷ 0x8C ∷ written_array written_text (nodes.uri ∷ [])) }
     ensures namespace_array { (nodes : Nodes) → Sends nodes (id.Numeric 0 2255)
-        (0x01 ∷ 0x8C ∷ written_array written_text (Some (codes "http://opcfoundation.org/UA/") ∷ nodes.uri ∷ Some (codes "urn:uaset:plant") ∷ [])) }
-    ensures start_time { (nodes : Nodes) → Sends nodes (id.Numeric 0 2257) (0x01 ∷ 0x0D ∷ written_signed 8 w64 nodes.start) }
-    ensures current_time { (nodes : Nodes) → Sends nodes (id.Numeric 0 2258) (0x01 ∷ 0x0D ∷ written_signed 8 w64 nodes.now) }
+        (0x01 ∷ 0x8C ∷ written_array written_text (Some (codes "http://opcfoundation.org/UA/") ∷ nodes.uri ∷ Some
+            (codes "urn:uaset:plant") ∷ [])) }
+    ensures start_time { (nodes : Nodes) → Sends nodes (id.Numeric 0 2257)
+        (0x01 ∷ 0x0D ∷ written_signed 8 w64 nodes.start) }
+    ensures current_time { (nodes : Nodes) → Sends nodes (id.Numeric 0 2258)
+        (0x01 ∷ 0x0D ∷ written_signed 8 w64 nodes.now) }
     ensures state { (nodes : Nodes) → Sends nodes (id.Numeric 0 2259) (0x01 ∷ 0x06 ∷ 0 ∷ 0 ∷ 0 ∷ 0 ∷ []) }
-    ensures service_level { (nodes : Nodes) → nodes.level < 2 ^ 8 → Sends nodes (id.Numeric 0 2267) (0x01 ∷ 0x03 ∷ nodes.level ∷ []) }
-    ensures support { (nodes : Nodes) → nodes.support < 2 ^ 8 → Sends nodes (id.Numeric 0 3709) (0x01 ∷ 0x06 ∷ nodes.support ∷ 0 ∷ 0 ∷ 0 ∷ []) }
+    ensures service_level { (nodes : Nodes) → nodes.level < 2 ^ 8
+        → Sends nodes (id.Numeric 0 2267) (0x01 ∷ 0x03 ∷ nodes.level ∷ []) }
+    ensures support { (nodes : Nodes) → nodes.support < 2 ^ 8
+        → Sends nodes (id.Numeric 0 3709) (0x01 ∷ 0x06 ∷ nodes.support ∷ 0 ∷ 0 ∷ 0 ∷ []) }
     ensures server_uri_array { (nodes : Nodes) → Sends nodes (id.Numeric 0 11314)
         (0x01 ∷ 0x8C ∷ written_array written_text (map (λ member. member.uri) nodes.members)) }
     ensures item { (nodes : Nodes) (number : ℕ) (change : Change) → 1 ≤ number → number ≤ nodes.items
@@ -61,7 +67,8 @@ pub fn values_are_sent()
         → Sends nodes (id.Numeric 2 number)
         (0x15 ∷ 0x08 ∷ written_signed 8 w64 change.value ++ written_signed 8 w64 change.time
         ++ change.pico % 256 ∷ change.pico / 256 % 256 ∷ []) }
-    ensures no_change { (nodes : Nodes) (number : ℕ) → 1 ≤ number → number ≤ nodes.items → last_of number nodes.current ≡ None
+    ensures no_change { (nodes : Nodes) (number : ℕ) → 1 ≤ number → number ≤ nodes.items
+        → last_of number nodes.current ≡ None
         → Sends nodes (id.Numeric 2 number) (0x00 ∷ []) }
 {}
 

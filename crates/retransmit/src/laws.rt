@@ -9,9 +9,12 @@ ghost use Rattle.retransmit.specs.History.{AreNewest, Call, acknowledged, availa
 /// message of a number is kept as long as others were sent fewer than 64 times since, and what is kept are always the
 /// newest of the unacknowledged messages, each number once.
 pub fn keeps_what_is_available<M: Drop>()
-    ensures given { (number : ℕ) (history : List (Call M)) → message_of number (kept_after history) ≡ available number history }
+    ensures given { (number : ℕ) (history : List (Call M))
+        → message_of number (kept_after history) ≡ available number history }
     ensures newest { (history : List (Call M)) → AreNewest (kept_after history) (unacknowledged history) }
     ensures recent { (number : ℕ) (history : List (Call M)) → sendings_since number history < 64
-        → message_of number (kept_after history) ≡ (if acknowledged number history then None else last_sent number history) }
-    ensures single { (number : ℕ) (history : List (Call M)) → length (filter (λ sent. sent.number == number) (kept_after history)) ≤ 1 }
+        → message_of number (kept_after history) ≡
+            (if acknowledged number history then None else last_sent number history) }
+    ensures single { (number : ℕ) (history : List (Call M))
+        → length (filter (λ sent. sent.number == number) (kept_after history)) ≤ 1 }
 {}

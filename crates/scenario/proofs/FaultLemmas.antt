@@ -18,7 +18,7 @@ use Rattle.scenario.specs.declared.table.Numbers.{Numbers}
 use Rattle.scenario.specs.declared.table.Row.{Row}
 use Rattle.set_model.specs.declared.source.Change.{Change}
 use Rattle.scenario.specs.Table.{row_of, line_with, first_of, second_of, counts}
-use Rattle.scenario.specs.Rules.{allows, allows_set}
+use Rattle.scenario.specs.Rules.{allows, allows_rule, allows_set}
 use Rattle.scenario.specs.Words.{words_of}
 use Rattle.scenario.specs.Grammar.{form_of}
 use Rattle.scenario.specs.Past.{is_direct_in, servers_in, items_in, changes_in, boot_of, listens_in, attached_in}
@@ -121,8 +121,13 @@ set_place n b h =
     is_zero : (m : ℕ) → (m == 0) ≡ true → m ≡ 0
     is_zero m e = grind (arith, nat_tests)
 
-pub items_place : (n : ℕ) → (n == 1) ≡ true → n ≡ 1
-items_place n h = grind (arith, nat_tests)
+pub items_place : (n : ℕ) (b : Bool) → ((n == 1) && b) ≡ true → (n ≡ 1) × (b ≡ true)
+items_place n b h =
+    let parts = and_parts (n == 1) b h in
+    (is_one n parts.0, parts.1)
+  where
+    is_one : (m : ℕ) → (m == 1) ≡ true → m ≡ 1
+    is_one m e = grind (arith, nat_tests)
 
 -- a form of the table at its place
 pub record Placed (rules : Rules) (before : List Line) (row : Row) (said : Numbers) : Type 0 where
@@ -180,7 +185,7 @@ may_plain rules before _ said h c = tt
 pub may : (rules : Rules) (before : List Line) (f : Form) → Passes rules before f → MayFollow before (line_of f)
 may rules before (form.Set mode servers) h = ((set_place _ (allows_set rules.sets mode servers) h.place).0, (within_range 1 8 servers h.range).1)
 may rules before (form.Items items queue oldest) h =
-    (items_place _ h.place, (within_range 1 64 items (and_parts (is_within 1 64 items) (is_within 2 1000 queue) h.range).0).1)
+    ((items_place _ (allows_rule rules.allowed oldest) h.place).0, (within_range 1 64 items (and_parts (is_within 1 64 items) (is_within 2 1000 queue) h.range).0).1)
 may rules before (form.Change item time pico value) h =
     not_full _ (length (changes_in before)) (refusal_after (last_of item (changes_in before)) (the_change item time pico value)) refl
     (change_passed rules before (the_change item time pico value) h.source).1

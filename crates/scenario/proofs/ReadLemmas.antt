@@ -9,7 +9,7 @@ use Rattle.scenario.specs.declared.form.Form.TheVariants as form
 use Rattle.scenario.specs.declared.line.Line.{Line}
 use Rattle.scenario.specs.declared.rules.Rules.{Rules}
 use Rattle.scenario.specs.Table.{row_of}
-use Rattle.scenario.specs.Rules.{allows_set}
+use Rattle.scenario.specs.Rules.{allows_rule, allows_set}
 use Rattle.scenario.specs.Texts.{line_text, written}
 use Rattle.scenario.specs.Words.{with_first, lines_of, words_of}
 use Rattle.scenario.specs.Grammar.{form_text, written_pico, written_form}
@@ -44,7 +44,7 @@ misses_none rules before (form.Set mode servers) h =
     ap (misses_set (length before)) (words_of-form_text (form.Set mode servers))
     ∙ ap (λ b. cond b false (cond (length before == 1) (not (bytes_eq (codes "set") (codes "items"))) false)) first
 misses_none rules before (form.Items items queue oldest) h =
-    let second = is_second (length before) (items_place (length before) h) in
+    let second = is_second (length before) (items_place (length before) (allows_rule rules.allowed oldest) h).0 in
     ap (misses_set (length before)) (words_of-form_text (form.Items items queue oldest))
     ∙ ap (λ b. cond b (not (bytes_eq (codes "items") (codes "set"))) (cond (length before == 1) false false)) second.0
     ∙ ap (λ b. cond b false false) second.1

@@ -401,7 +401,7 @@ items_stand : (pool state : ℕ) (first : Line) → Stands (rules_of_all pool) (
 items_stand pool state first =
     let items : first_draw 4 state < 4 = drawn_below 4 (next_state state) (omega arith) in
     let queue : second_draw 9 state < 9 = drawn_below 9 (next_state (next_state state)) (omega arith) in
-    (refl, (omega arith, omega arith), (omega arith, omega arith))
+    (refl, refl, (omega arith, omega arith), (omega arith, omega arith))
 
 -- one line more, by its number
 record Grows (pool : ℕ) (c d : Course) : Type 0 where

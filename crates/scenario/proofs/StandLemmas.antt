@@ -25,7 +25,7 @@ use Rattle.scenario.specs.declared.table.Need.{Need}
 use Rattle.scenario.specs.declared.table.Need.TheVariants as need
 use Rattle.scenario.specs.declared.table.Numbers.{Numbers}
 use Rattle.scenario.specs.Table.{row_of, shape_of, first_of}
-use Rattle.scenario.specs.Rules.{allows_set}
+use Rattle.scenario.specs.Rules.{allows_rule, allows_set}
 use Rattle.scenario.specs.Texts.{line_text, written}
 use Rattle.scenario.specs.Grammar.{written_form}
 use Rattle.scenario.specs.Past.{servers_of, items_of, servers_in, items_in, changes_in, is_running, boot_of, listens_in, attached_in}
@@ -72,8 +72,9 @@ first_place : (n : ℕ) (b : Bool) → n ≡ 0 → b ≡ true → ((n == 0) && b
 first_place n b h k =
     let first : (n == 0) ≡ true = grind (arith, nat_tests) in rw (first, k) refl
 
-second_place : (n : ℕ) → n ≡ 1 → (n == 1) ≡ true
-second_place n h = grind (arith, nat_tests)
+second_place : (n : ℕ) (b : Bool) → n ≡ 1 → b ≡ true → ((n == 1) && b) ≡ true
+second_place n b h k =
+    let second : (n == 1) ≡ true = grind (arith, nat_tests) in rw (second, k) refl
 
 both_true : (a b : Bool) → a ≡ true → b ≡ true → (a && b) ≡ true
 both_true a b h k = rw (h, k) refl
@@ -178,8 +179,8 @@ form_of_shape rules before (shape.Items items queue oldest) l h is = record {
   f = form.Items items queue oldest;
   is = is;
   passes = record {
-    place = second_place (length before) h.0;
-    range = both_true _ _ (within_is 1 64 items h.1) (within_is 2 1000 queue h.2);
+    place = second_place (length before) (allows_rule rules.allowed oldest) h.0 h.1;
+    range = both_true _ _ (within_is 1 64 items h.2) (within_is 2 1000 queue h.3);
     built = refl;
     server = refl;
     item = refl;
@@ -276,7 +277,8 @@ stands rules before (form.Set mode servers) h =
     (p.0, p.1, h.built, within_range 1 8 servers h.range)
 stands rules before (form.Items items queue oldest) h =
     let parts = and_parts (is_within 1 64 items) (is_within 2 1000 queue) h.range in
-    (items_place (length before) h.place, within_range 1 64 items parts.0, within_range 2 1000 queue parts.1)
+    let p = items_place (length before) (allows_rule rules.allowed oldest) h.place in
+    (p.0, p.1, within_range 1 64 items parts.0, within_range 2 1000 queue parts.1)
 stands rules before (form.Change item time pico value) h =
     let parts = and_parts (is_within 1 (10 ^ 18) time && is_within 0 9999 (pico_of pico)) (fits_value value) h.range in
     let stamp = and_parts (is_within 1 (10 ^ 18) time) (is_within 0 9999 (pico_of pico)) parts.0 in

@@ -26,7 +26,7 @@ use Rattle.scenario.specs.declared.table.Name.{Name}
 use Rattle.scenario.specs.declared.table.Name.TheVariants as name
 use Rattle.scenario.specs.declared.table.Numbers.{Numbers}
 use Rattle.scenario.specs.Table.{row_of, line_with, shape_of, first_of, second_of}
-use Rattle.scenario.specs.Rules.{allows_set, is_built}
+use Rattle.scenario.specs.Rules.{allows_rule, allows_set, is_built}
 use Rattle.scenario.specs.Words.{lines_of}
 use Rattle.scenario.specs.Past.{servers_of, items_of, servers_in, items_in, change_of, changes_in, ends, has_ended, starts, boot_of, listens, listens_in, attached_in}
 use Rattle.scenario.specs.Faults.{is_within, is_between, fits_value, kind_of_refusal, change_fault, pico_of, the_change, line_of, line_or_fault}
@@ -242,7 +242,7 @@ pub between : (rules : Rules) (before : List Line) (f : Form) → 2 ≤ length b
 between rules before (form.Set mode servers) long h =
     let none : length before ≡ 0 = (set_place (length before) (allows_set rules.sets mode servers) h.place).0 in absurd (omega arith)
 between rules before (form.Items items queue oldest) long h =
-    let one : length before ≡ 1 = items_place (length before) h.place in absurd (omega arith)
+    let one : length before ≡ 1 = (items_place (length before) (allows_rule rules.allowed oldest) h.place).0 in absurd (omega arith)
 between rules before (form.Change item time pico value) long h = between_is before h.place
 between rules before (form.Plain n said) long h = between_is before (placed_row rules before (row_of n) said h.place).between
 
@@ -313,7 +313,7 @@ next rules servers items before (form.Set mode count) o p =
     let none : length before ≡ 0 = (set_place (length before) (allows_set rules.sets mode count) p.place).0 in
     let long : 2 ≤ length before = o.long in absurd (omega arith)
 next rules servers items before (form.Items count queue oldest) o p =
-    let one : length before ≡ 1 = items_place (length before) p.place in
+    let one : length before ≡ 1 = (items_place (length before) (allows_rule rules.allowed oldest) p.place).0 in
     let long : 2 ≤ length before = o.long in absurd (omega arith)
 next rules servers items before (form.Change item time pico value) o p =
     inr ((refl, wide _ _ item o.items_are (within_range 1 (items_in before) item p.item)), stays_open servers items before (line.Change (the_change item time pico value)) o refl refl refl)
@@ -348,11 +348,12 @@ record First (rules : Rules) (l : Line) : Type 0 where
   built : is_built rules.built mode ≡ true
   fits : IsFrom 1 8 servers
 
-record Second (l : Line) : Type 0 where
+record Second (rules : Rules) (l : Line) : Type 0 where
   items : ℕ
   queue : ℕ
   oldest : Bool
   is : l ≡ line.Items items queue oldest
+  allowed : allows_rule rules.allowed oldest ≡ true
   items_fit : IsFrom 1 64 items
   queue_fits : IsFrom 2 1000 queue
 
@@ -378,10 +379,10 @@ first_form rules (form.Items items queue oldest) p = absurd (false_true p.place)
 first_form rules (form.Change item time pico value) p = absurd (false_true p.place)
 first_form rules (form.Plain n said) p = absurd (late rules [] n said (omega arith) p)
 
-second_form : (rules : Rules) (first : Line) (f : Form) → Passes rules (first ∷ []) f → Second (line_of f)
+second_form : (rules : Rules) (first : Line) (f : Form) → Passes rules (first ∷ []) f → Second rules (line_of f)
 second_form rules first (form.Items items queue oldest) p =
     let parts = and_parts (is_within 1 64 items) (is_within 2 1000 queue) p.range in
-    record { items = items; queue = queue; oldest = oldest; is = refl; items_fit = within_range 1 64 items parts.0; queue_fits = within_range 2 1000 queue parts.1 }
+    record { items = items; queue = queue; oldest = oldest; is = refl; allowed = p.place; items_fit = within_range 1 64 items parts.0; queue_fits = within_range 2 1000 queue parts.1 }
 second_form rules first (form.Set mode servers) p = absurd (false_true p.place)
 second_form rules first (form.Change item time pico value) p = absurd (false_true p.place)
 second_form rules first (form.Plain n said) p = absurd (late rules (first ∷ []) n said (omega arith) p)
@@ -392,10 +393,10 @@ first_of_all rules l h =
     let P : Line → Type 0 = λ m. First rules m in
     subst P t.line_is (first_form rules t.f t.passes)
 
-second_of_all : (rules : Rules) (first l : Line) → Allowed rules (first ∷ []) l → Second l
+second_of_all : (rules : Rules) (first l : Line) → Allowed rules (first ∷ []) l → Second rules l
 second_of_all rules first l h =
     let t = taken rules (first ∷ []) h.text l h.is in
-    let P : Line → Type 0 = λ m. Second m in
+    let P : Line → Type 0 = λ m. Second rules m in
     subst P t.line_is (second_form rules first t.f t.passes)
 
 open_set : (mode : SetMode) (servers items queue : ℕ) (oldest : Bool) (l m : Line) → l ≡ line.Set mode servers → m ≡ line.Items items queue oldest → Open servers items (l ∷ (m ∷ []))
@@ -446,6 +447,7 @@ scenario_from rules (l ∷ (m ∷ rest)) h k =
       lines_are = ap (λ x. x ∷ (m ∷ rest)) a.is ∙ ap (λ x. line.Set a.mode a.servers ∷ (x ∷ rest)) b.is
           ∙ ap (λ x. line.Set a.mode a.servers ∷ (line.Items b.items b.queue b.oldest ∷ x)) c.rest_is;
       set_allowed = a.allowed;
+      rule_allowed = b.allowed;
       mode_built = a.built;
       servers_fit = a.fits;
       items_fit = b.items_fit;

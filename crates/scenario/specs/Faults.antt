@@ -25,7 +25,7 @@ use Rattle.scenario.specs.declared.table.Row.{Row}
 use Rattle.scenario.specs.Words.{words_of}
 use Rattle.scenario.specs.Grammar.{form_of}
 use Rattle.scenario.specs.Table.{row_of, first_of, second_of, line_with, counts, all_pass}
-use Rattle.scenario.specs.Rules.{allows, allows_set, is_built}
+use Rattle.scenario.specs.Rules.{allows, allows_rule, allows_set, is_built}
 use Rattle.scenario.specs.Past.{is_direct_in, servers_in, items_in, changes_in, is_running, boot_of, has_ended}
 use Rattle.scenario.specs.Past.{listens_in, attached_in}
 
@@ -59,7 +59,7 @@ is_plain rules before row said =
 -- line isn't one of the command's, or of the set's mode, or has not its numbers
 abbrev pub is_in_place : Rules → List Line → Form → Bool
 is_in_place rules before (form.Set mode servers) = (length before == 0) && allows_set rules.sets mode servers
-is_in_place rules before (form.Items items queue oldest) = length before == 1
+is_in_place rules before (form.Items items queue oldest) = (length before == 1) && allows_rule rules.allowed oldest
 is_in_place rules before (form.Change item time pico value) = is_between before
 is_in_place rules before (form.Plain name said) = is_between before && is_plain rules before (row_of name) said
 

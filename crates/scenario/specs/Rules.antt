@@ -25,6 +25,11 @@ is_built built Hot = built.hot
 is_built built Warm = built.warm
 is_built built Cold = built.cold
 
+-- a full queue may drop its oldest entry always, and its newest where the command has such queues
+abbrev pub allows_rule : Allowed → Bool → Bool
+allows_rule allowed true = true
+allows_rule allowed false = allowed.newest
+
 -- a scenario may have lines of this group
 abbrev pub allows : Allowed → Group → Bool
 allows allowed group.Common = true
@@ -37,7 +42,7 @@ abbrev pub rules_of_all : ℕ → Rules
 rules_of_all pool = record {
   sets = sets.Any;
   built = record { direct = true; hot = true; warm = true; cold = true };
-  allowed = record { links = true; servers = true; listeners = true };
+  allowed = record { links = true; servers = true; listeners = true; newest = true };
   lines = 1000000;
   changes = 200000;
   pool = pool;

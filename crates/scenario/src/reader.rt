@@ -469,7 +469,7 @@ impl Reader {
             Form::Set { mode, servers } => {
                 self.lines.len() == 0 && rules.allows_set(mode, servers)
             }
-            Form::Items { .. } => self.lines.len() == 1,
+            Form::Items { oldest, .. } => self.lines.len() == 1 && rules.allows_rule(oldest),
             Form::Change { .. } => self.is_between(),
             Form::Plain { name, numbers } => {
                 self.is_between() && self.is_plain(rules, name, numbers)

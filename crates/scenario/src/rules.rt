@@ -1,5 +1,5 @@
 ghost use Rattle.std.specs.Prelude.{◌≡◌};
-ghost use Rattle.scenario.specs.Rules.{allows, allows_set, is_built, rules_of_all, rules_of_replay};
+ghost use Rattle.scenario.specs.Rules.{allows, allows_rule, allows_set, is_built, rules_of_all, rules_of_replay};
 
 use crate::table::Group;
 use ua_base::SetMode;
@@ -35,6 +35,8 @@ pub struct Allowed {
     pub links: bool,
     pub servers: bool,
     pub listeners: bool,
+    /// Queues that drop their newest entry where they are full.
+    pub newest: bool,
 }
 
 /// How a command judges a scenario.
@@ -84,6 +86,7 @@ impl Rules {
                 links: true,
                 servers: true,
                 listeners: true,
+                newest: true,
             },
             lines: MOST_LINES,
             changes: MOST_CHANGES,
@@ -100,6 +103,13 @@ impl Rules {
             Sets::OverBytes => mode != SetMode::Direct,
             Sets::OneHot => mode == SetMode::Hot && servers == 1,
         }
+    }
+
+    /// Whether full queues may drop their oldest entry, or else their newest.
+    pub(crate) fn allows_rule(self, oldest: bool) -> bool
+        ensures { result ≡ allows_rule self.allowed oldest }
+    {
+        oldest || self.allowed.newest
     }
 
     /// Whether the program can run sets in this mode.

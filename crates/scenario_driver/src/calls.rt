@@ -14,6 +14,7 @@ fn narrow_rules(sets: Sets) -> Rules {
         links: false,
         servers: false,
         listeners: false,
+        newest: false,
     };
     Rules {
         sets,

@@ -194,7 +194,8 @@ impl SourceLog {
         requires { change.pico ≤ 9999 }
         ensures taken { OnOk result (self.new ≡ self.old ++ change ∷ []) }
         ensures allowed { OnOk result (refusal self.old change ≡ None) }
-        ensures refused { IfErr result (λ fault. fault ≢ SourceFault.OutOfMemory → refusal self.old change ≡ Some fault) }
+        ensures refused { IfErr result (λ fault. fault ≢ SourceFault.OutOfMemory
+            → refusal self.old change ≡ Some fault) }
         ensures unchanged { OnErr result (self.new ≡ self.old) }
     {
         if let Some(fault) = self.refusal(change) {

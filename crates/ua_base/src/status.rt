@@ -143,14 +143,16 @@ pub fn codes_are_the_standards()
     ensures bad_session_closed { BAD_SESSION_CLOSED ≡ codes.bad_session_closed }
     ensures bad_session_not_activated { BAD_SESSION_NOT_ACTIVATED ≡ codes.bad_session_not_activated }
     ensures bad_subscription_id_invalid { BAD_SUBSCRIPTION_ID_INVALID ≡ codes.bad_subscription_id_invalid }
-    ensures bad_timestamps_to_return_invalid { BAD_TIMESTAMPS_TO_RETURN_INVALID ≡ codes.bad_timestamps_to_return_invalid }
+    ensures bad_timestamps_to_return_invalid { BAD_TIMESTAMPS_TO_RETURN_INVALID
+        ≡ codes.bad_timestamps_to_return_invalid }
     ensures bad_node_id_unknown { BAD_NODE_ID_UNKNOWN ≡ codes.bad_node_id_unknown }
     ensures bad_attribute_id_invalid { BAD_ATTRIBUTE_ID_INVALID ≡ codes.bad_attribute_id_invalid }
     ensures bad_index_range_invalid { BAD_INDEX_RANGE_INVALID ≡ codes.bad_index_range_invalid }
     ensures bad_data_encoding_invalid { BAD_DATA_ENCODING_INVALID ≡ codes.bad_data_encoding_invalid }
     ensures bad_monitoring_mode_invalid { BAD_MONITORING_MODE_INVALID ≡ codes.bad_monitoring_mode_invalid }
     ensures bad_monitored_item_id_invalid { BAD_MONITORED_ITEM_ID_INVALID ≡ codes.bad_monitored_item_id_invalid }
-    ensures bad_monitored_item_filter_unsupported { BAD_MONITORED_ITEM_FILTER_UNSUPPORTED ≡ codes.bad_monitored_item_filter_unsupported }
+    ensures bad_monitored_item_filter_unsupported { BAD_MONITORED_ITEM_FILTER_UNSUPPORTED
+        ≡ codes.bad_monitored_item_filter_unsupported }
     ensures bad_security_policy_rejected { BAD_SECURITY_POLICY_REJECTED ≡ codes.bad_security_policy_rejected }
     ensures bad_too_many_sessions { BAD_TOO_MANY_SESSIONS ≡ codes.bad_too_many_sessions }
     ensures bad_method_invalid { BAD_METHOD_INVALID ≡ codes.bad_method_invalid }
@@ -163,7 +165,8 @@ pub fn codes_are_the_standards()
     ensures bad_tcp_message_type_invalid { BAD_TCP_MESSAGE_TYPE_INVALID ≡ codes.bad_tcp_message_type_invalid }
     ensures bad_tcp_secure_channel_unknown { BAD_TCP_SECURE_CHANNEL_UNKNOWN ≡ codes.bad_tcp_secure_channel_unknown }
     ensures bad_tcp_message_too_large { BAD_TCP_MESSAGE_TOO_LARGE ≡ codes.bad_tcp_message_too_large }
-    ensures bad_secure_channel_token_unknown { BAD_SECURE_CHANNEL_TOKEN_UNKNOWN ≡ codes.bad_secure_channel_token_unknown }
+    ensures bad_secure_channel_token_unknown { BAD_SECURE_CHANNEL_TOKEN_UNKNOWN
+        ≡ codes.bad_secure_channel_token_unknown }
     ensures bad_sequence_number_invalid { BAD_SEQUENCE_NUMBER_INVALID ≡ codes.bad_sequence_number_invalid }
     ensures bad_invalid_argument { BAD_INVALID_ARGUMENT ≡ codes.bad_invalid_argument }
     ensures bad_response_too_large { BAD_RESPONSE_TOO_LARGE ≡ codes.bad_response_too_large }

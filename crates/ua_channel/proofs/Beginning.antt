@@ -1,5 +1,5 @@
 -- Of some first bytes of messages the first of the messages are heard.
-use Rattle.std.proofs.Common.{◌≡◌, ◌⊎◌, ℕ, Bool, true, false, cond, List, [], ◌∷◌, ◌++◌, length, None, refl, sym, ap, subst, ◌∙◌, append_assoc, inl, inr}
+use Rattle.std.proofs.Common.{◌≡◌, ◌⊎◌, ℕ, Bool, true, false, List, [], ◌∷◌, ◌++◌, length, None, refl, sym, ap, subst, ◌∙◌, inl, inr}
 use Rattle.ua_chunks.specs.declared.frame.Frame.{Frame}
 use Rattle.ua_chunks.specs.Frames.{fault_of, moved}
 use Rattle.ua_chunks.specs.Framing.{Framing, after_feed, frames_of}
@@ -9,12 +9,12 @@ use Rattle.ua_chunks.proofs.Pieces.{cut_frames}
 use Rattle.ua_channel.specs.declared.ear.Ear.{Ear}
 use Rattle.ua_channel.specs.declared.heard.Heard.{Heard}
 use Rattle.ua_channel.specs.declared.wire.Order.{Order}
-use Rattle.ua_channel.specs.State.{kept, kept_by}
+use Rattle.ua_channel.specs.State.{kept_by}
 use Rattle.ua_channel.specs.Orders.{wire_parts}
 use Rattle.ua_channel.specs.Arriving.{Arrive, Follows, HearsFront, SameButPart, Sent, bytes_of, heard_all, heard_next, sent_bytes}
-use Rattle.ua_channel.specs.Node.{Deafens, NodeState, deaf, framed_node, node_after, stepped, with_frame, with_frames}
-use Rattle.ua_channel.proofs.Cutting.{cut_node, deaf_after, deaf_frames, done, frames_reframed, hearing_after, reframe, reframed, reframed_deaf, reframed_open, stepped_is}
-use Rattle.ua_channel.proofs.Coming.{Hushed, hears_it, moved_node, next_open, one_heard, true_false}
+use Rattle.ua_channel.specs.Node.{Deafens, NodeState, deaf, node_after, stepped, with_frame, with_frames}
+use Rattle.ua_channel.proofs.Cutting.{cut_node, deaf_after, deaf_frames, ended, frames_reframed, hearing_after, reframe, reframed, reframed_deaf, reframed_open, stepped_is}
+use Rattle.ua_channel.proofs.Coming.{Hushed, hears_it, next_open, one_heard, true_false}
 use Rattle.ua_channel.proofs.Parting.{parts_bring, parts_by}
 
 -- ---- lists
@@ -116,7 +116,7 @@ module _ {C : Type 0} (ears : C → Ear) (answer : Heard → C → C × List Ord
   front_stepped front n none =
       let f = n.channel.framing in
       stepped_is ears answer front n
-      ∙ ap (λ o. done ears answer o (frames_of front f) (reframe ears answer (kept_by o (after_feed front f)) n)) none
+      ∙ ap (λ o. ended ears answer o (frames_of front f) (reframe ears answer (kept_by o (after_feed front f)) n)) none
 
   front_by : (m : Sent) (front rest : List ℕ) (n : NodeState C) → deaf ears answer n ≡ false → Deafens ears answer → Follows m n.channel → sent_bytes m ≡ front ++ rest → Hears1 front m n
   front_by m [] rest n e deafens follows are = inl (subst (λ x. SameButPart x n) (sym (nothing n)) (same_it n))

@@ -1,18 +1,16 @@
 -- One message, heard by an end that awaits its number.
-use Rattle.std.proofs.Common.{◌≡◌, ◌⊎◌, ℕ, ◌==◌, ◌||◌, ◌^◌, ◌<◌, Bool, true, false, cond, not, List, [], ◌∷◌, ◌++◌, length, Option, Some, None, Ok, Err, refl, sym, ap, subst, ◌∙◌, arith, inl, inr}
+use Rattle.std.proofs.Common.{◌≡◌, ◌⊎◌, ℕ, ◌==◌, Bool, true, false, cond, not, List, [], ◌∷◌, length, Option, Some, None, refl, sym, ap, subst, ◌∙◌, arith, inl, inr}
 use Rattle.std.specs.List.{AllByRecursion}
 use Rattle.std.proofs.lemmas.Bool.Decides.{nat_tests}
 use Rattle.ua_base.specs.Status.{bad_secure_channel_token_unknown, bad_tcp_message_type_invalid, bad_tcp_secure_channel_unknown}
-use Rattle.ua_values.specs.Reading.{input}
 use Rattle.ua_chunks.specs.declared.frame.Kind.{Kind}
 use Rattle.ua_chunks.specs.declared.frame.Kind.TheVariants as kind
 use Rattle.ua_chunks.specs.declared.frame.Frame.{Frame}
 use Rattle.ua_chunks.specs.declared.message.Message.{Message}
 use Rattle.ua_chunks.specs.declared.message.MessageFault.{MessageFault}
 use Rattle.ua_chunks.specs.Frames.{fault_of, moved}
-use Rattle.ua_chunks.specs.Framing.{Brings, Framing, IsBetween, after_feed, frames_of}
-use Rattle.ua_chunks.specs.Assembly.{Assembly, Leads, RefusesFirst, Tokens, after_frame, assembled, fault_after, is_former, message_of, takes_number, takes_token, tokens_of, used, with_number}
-use Rattle.ua_chunks.specs.Bodies.{opn_head_at, opn_of, policy_at, value_of}
+use Rattle.ua_chunks.specs.Framing.{Brings, Framing, IsBetween, frames_of}
+use Rattle.ua_chunks.specs.Assembly.{Assembly, Leads, RefusesFirst, Tokens, after_frame, assembled, message_of, takes_number, takes_token, tokens_of, used, with_number}
 use Rattle.ua_base.specs.Number.{after_chunk}
 use Rattle.ua_chunks.specs.Sending.{Sending, after_put, opn_part, parts_of}
 use Rattle.ua_chunks.specs.Arrival.{InStep, IsPut, message_put, placed}
@@ -27,24 +25,35 @@ use Rattle.ua_channel.specs.declared.heard.Heard.TheVariants as said
 use Rattle.ua_channel.specs.declared.wire.Order.{Order}
 use Rattle.ua_channel.specs.declared.wire.Order.TheVariants as order
 use Rattle.ua_channel.specs.State.{ChannelState, MayCarry, WireState, is_deaf, kept, kept_by, shut}
-use Rattle.ua_channel.specs.Hearing.{Hearing, chunk_heard, chunk_said, hearing, heard_of, message_said, number_taken, opened, opening_heard, says, takes, with_assembly, with_policy}
-use Rattle.ua_channel.specs.Orders.{fits, obeyed, obeyed_all, put_on, wire_parts, wire_parts_by}
-use Rattle.ua_channel.specs.Messages.{Judged, hearing_of, judged_by, judges, message_of_channel, takes_token_of}
-use Rattle.ua_channel.specs.Arriving.{Arrive, Expects, Follows, IsSent, SameButPart, Sent, after_sent, assembly_after, bytes_of, heard_all, heard_in, heard_next, past, sent_bytes}
-use Rattle.ua_channel.specs.Node.{Deafens, NodeState, after_hearing, answered, deaf, framed_node, node_after, stepped, told, told_if, with_fault, with_frame, with_frames}
-use Rattle.ua_channel.proofs.Cutting.{cut_node, deaf_after, deaf_frames, done, hearing_after, open_frame, reframe, settled_shut, shut_node, stepped_is, told_deaf}
+use Rattle.ua_channel.specs.Hearing.{Hearing, chunk_heard, chunk_said, hearing, heard_of, message_said, number_taken, opened, says, takes, with_assembly, with_policy}
+use Rattle.ua_channel.specs.Orders.{done, fits, fits_in, obeyed_all, put_on, undone, wire_parts, wire_parts_by}
+use Rattle.ua_channel.specs.Messages.{Judged, hearing_of, judged_by, judges, message_of_channel}
+use Rattle.ua_channel.specs.Arriving.{Arrive, Expects, Follows, SameButPart, Sent, after_sent, assembly_after, bytes_of, heard_all, heard_in, heard_next, past, sent_bytes}
+use Rattle.ua_channel.specs.Node.{Deafens, NodeState, after_hearing, answered, deaf, node_after, stepped, told, with_frame, with_frames}
+use Rattle.ua_channel.proofs.Cutting.{cut_node, deaf_after, deaf_frames, ended, hearing_after, open_frame, reframe, settled_shut, stepped_is, told_deaf}
 use Rattle.ua_channel.proofs.Parting.{PartsBy, between_past, clo_put, msg_put, parts_bring, parts_by, put_in, some_bytes}
 
 -- ---- what an end that turns deaf had before
 
-forgets : (os : List Order) (f g : Framing) (a b : Assembly) (c : ChannelState)
+abbrev pub Forgets : List Order → Framing → Framing → Type 0
+Forgets os f g = (a b : Assembly) (c : ChannelState)
     → shut (obeyed_all os (record c { framing = f; assembly = a })) ≡ shut (obeyed_all os (record c { framing = g; assembly = b }))
+
+forgets_by : (d : Bool) (o : Order) (os : List Order) (f g : Framing) (a b : Assembly) (c : ChannelState) → Forgets os f g
+    → shut (obeyed_all os (cond d (done o (record c { framing = f; assembly = a })) (undone o (record c { framing = f; assembly = a }))))
+    ≡ shut (obeyed_all os (cond d (done o (record c { framing = g; assembly = b })) (undone o (record c { framing = g; assembly = b }))))
 unfolding put_on
+forgets_by true (order.Put w) os f g a b c others = others a b (put_on w c)
+forgets_by true (order.Limit l) os f g a b c others = others a b (done (order.Limit l) c)
+forgets_by true (order.Renew channel token) os f g a b c others =
+    others (done (order.Renew channel token) (record c { assembly = a })).assembly (done (order.Renew channel token) (record c { assembly = b })).assembly c
+forgets_by false (order.Put w) os f g a b c others = others a b (undone (order.Put w) c)
+forgets_by false (order.Limit l) os f g a b c others = others a b c
+forgets_by false (order.Renew channel token) os f g a b c others = others a b c
+
+forgets : (os : List Order) (f g : Framing) → Forgets os f g
 forgets [] f g a b c = refl
-forgets (order.Put w ∷ os) f g a b c = forgets os f g a b (put_on w c)
-forgets (order.Limit l ∷ os) f g a b c = forgets os f g a b (obeyed (order.Limit l) c)
-forgets (order.Renew channel token ∷ os) f g a b c =
-    forgets os f g (obeyed (order.Renew channel token) (record c { assembly = a })).assembly (obeyed (order.Renew channel token) (record c { assembly = b })).assembly c
+forgets (o ∷ os) f g a b c = forgets_by (fits_in o c.sending) o os f g a b c (forgets os f g)
 
 -- ---- a frame and a message, judged
 
@@ -141,9 +150,9 @@ module _ {C : Type 0} (ears : C → Ear) (answer : Heard → C → C × List Ord
       let f = n.channel.framing in
       let g = record f { place = moved f.place (length bytes) } in
       stepped_is ears answer bytes n
-      ∙ ap (λ (t : Framing). done ears answer (fault_of t.held) (frames_of bytes f) (reframe ears answer (kept t) n)) b.state
-      ∙ ap (λ (fs : List Frame). done ears answer (fault_of f.held) fs (reframe ears answer (kept_by (fault_of f.held) g) n)) b.frames_are
-      ∙ ap (λ (held : List ℕ). done ears answer (fault_of held) frames (reframe ears answer (kept_by (fault_of held) g) n)) between.1
+      ∙ ap (λ (t : Framing). ended ears answer (fault_of t.held) (frames_of bytes f) (reframe ears answer (kept t) n)) b.state
+      ∙ ap (λ (fs : List Frame). ended ears answer (fault_of f.held) fs (reframe ears answer (kept_by (fault_of f.held) g) n)) b.frames_are
+      ∙ ap (λ (held : List ℕ). ended ears answer (fault_of held) frames (reframe ears answer (kept_by (fault_of held) g) n)) between.1
 
   node_by : (bytes : List ℕ) (frames : List Frame) (n : NodeState C) → deaf ears answer n ≡ false → IsBetween n.channel.framing → (frames ≡ [] → ⊥)
       → Brings frames bytes n.channel.framing

@@ -12,8 +12,8 @@ use Rattle.ua_channel.specs.declared.heard.Heard.TheVariants as said
 use Rattle.ua_channel.specs.declared.wire.Order.{Order}
 use Rattle.ua_channel.specs.declared.wire.Order.TheVariants as order
 use Rattle.ua_channel.specs.State.{ChannelState, kept, kept_by, shut}
-use Rattle.ua_channel.specs.Hearing.{Hearing, hearing, with_assembly}
-use Rattle.ua_channel.specs.Orders.{obeyed, obeyed_all, put_on}
+use Rattle.ua_channel.specs.Hearing.{hearing, with_assembly}
+use Rattle.ua_channel.specs.Orders.{done, fits_in, obeyed, obeyed_all, put_on, undone}
 use Rattle.ua_channel.specs.Node.{Deafens, NodeState, after_hearing, answered, deaf, framed_node, node_after, settled, stepped, told, told_if, with_fault, with_frame, with_frames}
 
 -- ---- another framing
@@ -21,11 +21,24 @@ use Rattle.ua_channel.specs.Node.{Deafens, NodeState, after_hearing, answered, d
 pub with_framing : Framing → ChannelState → ChannelState
 with_framing f c = record c { framing = f }
 
-obeyed_reframed : (o : Order) (f : Framing) (c : ChannelState) → obeyed o (record c { framing = f }) ≡ record (obeyed o c) { framing = f }
+done_reframed : (o : Order) (f : Framing) (c : ChannelState) → done o (record c { framing = f }) ≡ record (done o c) { framing = f }
 unfolding put_on
-obeyed_reframed (order.Put w) f c = refl
-obeyed_reframed (order.Limit l) f c = refl
-obeyed_reframed (order.Renew channel token) f c = refl
+done_reframed (order.Put w) f c = refl
+done_reframed (order.Limit l) f c = refl
+done_reframed (order.Renew channel token) f c = refl
+
+undone_reframed : (o : Order) (f : Framing) (c : ChannelState) → undone o (record c { framing = f }) ≡ record (undone o c) { framing = f }
+undone_reframed (order.Put w) f c = refl
+undone_reframed (order.Limit l) f c = refl
+undone_reframed (order.Renew channel token) f c = refl
+
+obeyed_by : (b : Bool) (o : Order) (f : Framing) (c : ChannelState)
+    → cond b (done o (record c { framing = f })) (undone o (record c { framing = f })) ≡ record (cond b (done o c) (undone o c)) { framing = f }
+obeyed_by true o f c = done_reframed o f c
+obeyed_by false o f c = undone_reframed o f c
+
+obeyed_reframed : (o : Order) (f : Framing) (c : ChannelState) → obeyed o (record c { framing = f }) ≡ record (obeyed o c) { framing = f }
+obeyed_reframed o f c = obeyed_by (fits_in o c.sending) o f c
 
 pub all_reframed : (os : List Order) (f : Framing) (c : ChannelState) → obeyed_all os (record c { framing = f }) ≡ record (obeyed_all os c) { framing = f }
 all_reframed [] f c = refl
@@ -147,11 +160,11 @@ module _ {C : Type 0} (ears : C → Ear) (answer : Heard → C → C × List Ord
 
   -- ---- two pieces
 
-  abbrev pub done : Option ℕ → List Frame → NodeState C → NodeState C
-  done o xs n = with_fault ears answer o (with_frames ears answer xs n)
+  abbrev pub ended : Option ℕ → List Frame → NodeState C → NodeState C
+  ended o xs n = with_fault ears answer o (with_frames ears answer xs n)
 
   pub stepped_is : (bytes : List ℕ) (n : NodeState C) → stepped ears answer bytes n
-      ≡ done (fault_of (after_feed bytes n.channel.framing).held) (frames_of bytes n.channel.framing) (framed_node ears answer bytes n)
+      ≡ ended (fault_of (after_feed bytes n.channel.framing).held) (frames_of bytes n.channel.framing) (framed_node ears answer bytes n)
   unfolding stepped
   stepped_is bytes n = refl
 
@@ -169,7 +182,7 @@ module _ {C : Type 0} (ears : C → Ear) (answer : Heard → C → C × List Ord
   -- the second piece after frames of the first, which had no fault
   second_by : (c : Bool) (b : ℕ) (bytes : List ℕ) (xs : List Frame) (n : NodeState C) → deaf ears answer n ≡ false
       → deaf ears answer (with_frames ears answer xs n) ≡ c
-      → done (fault_of (after_feed (b ∷ bytes) n.channel.framing).held) (frames_of (b ∷ bytes) n.channel.framing)
+      → ended (fault_of (after_feed (b ∷ bytes) n.channel.framing).held) (frames_of (b ∷ bytes) n.channel.framing)
       (reframed (kept (after_feed (b ∷ bytes) n.channel.framing)) (with_frames ears answer xs n))
       ≡ node_after ears answer (b ∷ bytes) (with_frames ears answer xs n)
   second_by true b bytes xs n open_is e =
@@ -177,7 +190,7 @@ module _ {C : Type 0} (ears : C → Ear) (answer : Heard → C → C × List Ord
       let fault = fault_of (after_feed (b ∷ bytes) n.channel.framing).held in
       let frames = frames_of (b ∷ bytes) n.channel.framing in
       let same = reframed_deaf (kept (after_feed (b ∷ bytes) n.channel.framing)) m e in
-      ap (done fault frames) same
+      ap (ended fault frames) same
       ∙ ap (with_fault ears answer fault) (deaf_frames frames m e)
       ∙ deaf_fault fault m e
       ∙ sym (deaf_after (b ∷ bytes) m e)
@@ -185,8 +198,8 @@ module _ {C : Type 0} (ears : C → Ear) (answer : Heard → C → C × List Ord
       let m = with_frames ears answer xs n in
       let f = n.channel.framing in
       let same = reframed_open (kept (after_feed (b ∷ bytes) f)) m e in
-      ap (done (fault_of (after_feed (b ∷ bytes) f).held) (frames_of (b ∷ bytes) f)) same
-      ∙ ap (λ (g : Framing). done (fault_of (after_feed (b ∷ bytes) g).held) (frames_of (b ∷ bytes) g) (reframe (kept (after_feed (b ∷ bytes) g)) m)) (sym (framing_is xs n open_is e))
+      ap (ended (fault_of (after_feed (b ∷ bytes) f).held) (frames_of (b ∷ bytes) f)) same
+      ∙ ap (λ (g : Framing). ended (fault_of (after_feed (b ∷ bytes) g).held) (frames_of (b ∷ bytes) g) (reframe (kept (after_feed (b ∷ bytes) g)) m)) (sym (framing_is xs n open_is e))
       ∙ sym (stepped_is (b ∷ bytes) m)
       ∙ sym (hearing_after b bytes m e)
 
@@ -204,13 +217,13 @@ module _ {C : Type 0} (ears : C → Ear) (answer : Heard → C → C × List Ord
       let n0 = reframe fa n in
       let m = with_frames ears answer (frames_of front f) n0 in
       let first : stepped ears answer front n ≡ m =
-      stepped_is front n ∙ ap (λ (o : Option ℕ). done o (frames_of front f) (reframe (kept_by o fa) n)) is in
+      stepped_is front n ∙ ap (λ (o : Option ℕ). ended o (frames_of front f) (reframe (kept_by o fa) n)) is in
       stepped_is (front ++ back) n
-      ∙ ap (λ (t : Framing). done (fault_of t.held) (frames_of (front ++ back) f) (reframe (kept t) n)) (cut_state front back f)
-      ∙ ap (λ (fs : List Frame). done fault fs (reframe g n)) (cut_frames front back f)
+      ∙ ap (λ (t : Framing). ended (fault_of t.held) (frames_of (front ++ back) f) (reframe (kept t) n)) (cut_state front back f)
+      ∙ ap (λ (fs : List Frame). ended fault fs (reframe g n)) (cut_frames front back f)
       ∙ ap (with_fault ears answer fault) (frames_append (frames_of front f) (frames_of back fa) (reframe g n))
-      ∙ ap (λ (k : NodeState C). done fault (frames_of back fa) (with_frames ears answer (frames_of front f) k)) (sym (reframed_open g n0 e))
-      ∙ ap (done fault (frames_of back fa)) (frames_reframed (frames_of front f) g n0)
+      ∙ ap (λ (k : NodeState C). ended fault (frames_of back fa) (with_frames ears answer (frames_of front f) k)) (sym (reframed_open g n0 e))
+      ∙ ap (ended fault (frames_of back fa)) (frames_reframed (frames_of front f) g n0)
       ∙ second_by (deaf ears answer m) y ys (frames_of front f) n0 e refl
       ∙ ap (node_after ears answer back) (sym first)
   both_by (Some code) x xs y ys n deafens e is =
@@ -222,13 +235,13 @@ module _ {C : Type 0} (ears : C → Ear) (answer : Heard → C → C × List Ord
       let fault : fault_of (after_feed (front ++ back) f).held ≡ Some code = ap (λ (t : Framing). fault_of t.held) (cut_state front back f) ∙ stay.fault in
       let frames : frames_of (front ++ back) f ≡ frames_of front f =
       cut_frames front back f ∙ ap (λ (gs : List Frame). frames_of front f ++ gs) stay.frames ∙ append-nil (frames_of front f) in
-      let m = done (Some code) (frames_of front f) (reframe new_framing n) in
+      let m = ended (Some code) (frames_of front f) (reframe new_framing n) in
       let first : stepped ears answer front n ≡ m =
-      stepped_is front n ∙ ap (λ (o : Option ℕ). done o (frames_of front f) (reframe (kept_by o fa) n)) is in
+      stepped_is front n ∙ ap (λ (o : Option ℕ). ended o (frames_of front f) (reframe (kept_by o fa) n)) is in
       let ends : deaf ears answer m ≡ true = fault_deafens code (with_frames ears answer (frames_of front f) (reframe new_framing n)) deafens in
       stepped_is (front ++ back) n
-      ∙ ap (λ (o : Option ℕ). done o (frames_of (front ++ back) f) (reframe (kept_by o (after_feed (front ++ back) f)) n)) fault
-      ∙ ap (λ (fs : List Frame). done (Some code) fs (reframe new_framing n)) frames
+      ∙ ap (λ (o : Option ℕ). ended o (frames_of (front ++ back) f) (reframe (kept_by o (after_feed (front ++ back) f)) n)) fault
+      ∙ ap (λ (fs : List Frame). ended (Some code) fs (reframe new_framing n)) frames
       ∙ sym (deaf_after back m ends)
       ∙ ap (node_after ears answer back) (sym first)
 

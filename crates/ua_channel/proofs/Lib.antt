@@ -4,3 +4,4 @@ pub mod Parting
 pub mod Coming
 pub mod Showing
 pub mod Beginning
+pub mod Sharings

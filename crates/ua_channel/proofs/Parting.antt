@@ -1,13 +1,13 @@
 -- The frames of one message put, and the bytes that bring them.
-use Rattle.std.proofs.Common.{◌≡◌, ℕ, zero, suc, ◌^◌, ◌≤◌, ◌<◌, true, false, cond, List, [], ◌∷◌, ◌++◌, length, drop, Option, Some, None, refl, sym, ap, subst, ◌∙◌, arith, inl, inr, nat_le}
+use Rattle.std.proofs.Common.{◌≡◌, ℕ, zero, suc, ◌^◌, ◌≤◌, ◌<◌, true, List, [], ◌∷◌, length, drop, refl, sym, subst, ◌∙◌, arith, inl, inr, nat_le}
 use Rattle.std.specs.List.{AllByRecursion}
 use Rattle.std.proofs.lemmas.Bool.{cases_lt}
 use Rattle.std.proofs.lemmas.Bool.Decides.{nat_tests}
 use Rattle.ua_chunks.specs.declared.frame.Kind.{Kind}
 use Rattle.ua_chunks.specs.declared.frame.Kind.TheVariants as kind
 use Rattle.ua_chunks.specs.declared.frame.Frame.{Frame}
-use Rattle.ua_chunks.specs.Frames.{fault_of, moved, stage_of}
-use Rattle.ua_chunks.specs.Framing.{Brings, Framing, IsBetween, IsSettled, IsSettledAt, after_feed, frames_of}
+use Rattle.ua_chunks.specs.Frames.{moved, stage_of}
+use Rattle.ua_chunks.specs.Framing.{Brings, Framing, IsBetween, IsSettled, IsSettledAt}
 use Rattle.ua_chunks.specs.Assembly.{Leads, new_assembly}
 use Rattle.ua_chunks.specs.Sending.{IsSending, Part, Sending, in_chunk, message_parts, parts_bytes, parts_up_to, stepped}
 use Rattle.ua_chunks.specs.Arrival.{IsPut, Put, message_put, placed}

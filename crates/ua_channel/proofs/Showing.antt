@@ -1,30 +1,47 @@
 -- An end over messages shows the end over bytes.
-use Rattle.std.proofs.Common.{◌≡◌, ◌⊎◌, ℕ, ◌^◌, ◌<◌, Bool, true, false, cond, List, [], ◌∷◌, ◌++◌, map, refl, sym, ap, subst, ◌∙◌, append_assoc, inl, inr}
+use Rattle.std.proofs.Common.{◌≡◌, ◌⊎◌, ℕ, Bool, true, false, cond, List, [], ◌∷◌, ◌++◌, map, refl, sym, ap, subst, ◌∙◌, append_assoc, inl, inr}
 use Rattle.std.proofs.lemmas.List.{append-nil}
-use Rattle.ua_chunks.specs.Assembly.{Tokens, tokens_of}
+use Rattle.ua_chunks.specs.Assembly.{Tokens, takes_number, tokens_of}
+use Rattle.ua_chunks.specs.Framing.{IsBetween}
 use Rattle.ua_chunks.specs.Sending.{IsSending, Sending}
 use Rattle.ua_chunks.specs.Traffic.{renewed_tokens}
-use Rattle.ua_chunks.proofs.Putting.{limits_send, new_sends, put_sends, renewed_sends}
+use Rattle.ua_chunks.proofs.Putting.{limits_send, put_sends, renewed_sends}
 use Rattle.ua_channel.specs.declared.ear.Ear.{Ear}
 use Rattle.ua_channel.specs.declared.heard.Heard.{Heard}
 use Rattle.ua_channel.specs.declared.heard.Heard.TheVariants as said
 use Rattle.ua_channel.specs.declared.wire.Order.{Order}
 use Rattle.ua_channel.specs.declared.wire.Order.TheVariants as order
 use Rattle.ua_channel.specs.State.{ChannelState, WireState, is_deaf}
-use Rattle.ua_channel.specs.Orders.{obeyed, obeyed_all, put_on, renewed_for}
-use Rattle.ua_channel.specs.Messages.{MessageState, hearing_of, is_deaf_end, message_after, message_told, no_tokens, obeyed_message, obeyed_messages, settled_messages}
-use Rattle.ua_channel.specs.Arriving.{AreLawful, Chain, Expects, Follows, IsLawfulOrder, IsSent, Sent, Shows, after_order, after_sent, bytes_of, heard_in, heard_next, past, sent_bytes}
-use Rattle.ua_channel.specs.Node.{Deafens, NodeState, answered, deaf, settled, told}
-use Rattle.ua_channel.proofs.Cutting.{settled_deaf, settled_open, settled_shut, shut_node}
-use Rattle.ua_channel.proofs.Coming.{Outcome, hears_it, next_deaf, next_open, true_false}
+use Rattle.ua_channel.specs.Orders.{done, fits_in, obeyed, obeyed_all, put_on, renewed_for, undone}
+use Rattle.ua_channel.specs.Messages.{MessageState, hearing_of, is_deaf_end, message_after, message_told, no_tokens, obeyed_message, obeyed_messages}
+use Rattle.ua_channel.specs.Arriving.{AreLawful, Chain, Expects, Follows, IsLawfulOrder, IsSent, Sent, Mirrors, after_order, after_sent, bytes_of, heard_in, heard_next, past, sent_bytes}
+use Rattle.ua_channel.specs.Node.{Deafens, NodeState, answered, deaf, told}
+use Rattle.ua_channel.proofs.Cutting.{settled_open, settled_shut, shut_node}
+use Rattle.ua_channel.proofs.Coming.{hears_it, next_deaf, next_open, true_false}
 
 -- ---- orders change nothing of what is awaited
 
-expects_one : (o : Order) (next : ℕ) (c : ChannelState) → Expects next c → Expects next (obeyed o c)
+expects_same : (next : ℕ) (c d : ChannelState) → d.framing ≡ c.framing → d.assembly.last ≡ c.assembly.last → d.assembly.chunks ≡ c.assembly.chunks → d.assembly.body ≡ c.assembly.body
+    → d.assembly.fault ≡ c.assembly.fault → Expects next c → Expects next d
+expects_same next c d f l n b e x = record {
+  number = ap (takes_number next) l ∙ x.number;
+  chunks = n ∙ x.chunks;
+  body = b ∙ x.body;
+  fault = e ∙ x.fault;
+  between = subst IsBetween (sym f) x.between;
+}
+
+expects_by : (b : Bool) (o : Order) (next : ℕ) (c : ChannelState) → Expects next c → Expects next (cond b (done o c) (undone o c))
 unfolding put_on
-expects_one (order.Put w) next c x = record { number = x.number; chunks = x.chunks; body = x.body; fault = x.fault; between = x.between }
-expects_one (order.Limit l) next c x = record { number = x.number; chunks = x.chunks; body = x.body; fault = x.fault; between = x.between }
-expects_one (order.Renew channel token) next c x = record { number = x.number; chunks = x.chunks; body = x.body; fault = x.fault; between = x.between }
+expects_by true (order.Put w) next c x = expects_same next c (put_on w c) refl refl refl refl refl x
+expects_by true (order.Limit l) next c x = expects_same next c (done (order.Limit l) c) refl refl refl refl refl x
+expects_by true (order.Renew channel token) next c x = expects_same next c (done (order.Renew channel token) c) refl refl refl refl refl x
+expects_by false (order.Put w) next c x = expects_same next c (undone (order.Put w) c) refl refl refl refl refl x
+expects_by false (order.Limit l) next c x = x
+expects_by false (order.Renew channel token) next c x = x
+
+expects_one : (o : Order) (next : ℕ) (c : ChannelState) → Expects next c → Expects next (obeyed o c)
+expects_one o next c x = expects_by (fits_in o c.sending) o next c x
 
 expects_obeyed : (os : List Order) (next : ℕ) (c : ChannelState) → Expects next c → Expects next (obeyed_all os c)
 expects_obeyed [] next c x = x
@@ -52,7 +69,7 @@ chain_more first next [] m chain e is = (e ∙ sym chain, is, refl)
 chain_more first next (x ∷ sent) m chain e is = (chain.0, chain.1, chain_more (after_sent x).next next sent m chain.2 e is)
 
 puts_message : (first : ℕ) (w : WireState) (c : ChannelState) (out : List WireState) → IsLawfulOrder (order.Put w) c.sending → Puts first c out
-    → Puts first (obeyed (order.Put w) c) (out ++ w ∷ [])
+    → Puts first (done (order.Put w) c) (out ++ w ∷ [])
 unfolding put_on
 puts_message first w c out lawful p =
     let by = renewed_for w c.sending in
@@ -68,33 +85,45 @@ puts_message first w c out lawful p =
     }
 
 module _ {C : Type 0} where
-  puts_one : (first : ℕ) (o : Order) (c : ChannelState) (k : MessageState C) → IsLawfulOrder o c.sending → Puts first c k.out
-      → Puts first (obeyed o c) (obeyed_message o k).out
-  puts_one first (order.Put w) c k lawful p = puts_message first w c k.out lawful p
-  puts_one first (order.Limit l) c k lawful p = record {
+  puts_done : (first : ℕ) (o : Order) (c : ChannelState) (k : MessageState C) → IsLawfulOrder o c.sending → Puts first c k.out
+      → Puts first (done o c) (obeyed_message o k).out
+  puts_done first (order.Put w) c k lawful p = puts_message first w c k.out lawful p
+  puts_done first (order.Limit l) c k lawful p = record {
     sending = limits_send l.size l.max_message l.max_chunks c.sending p.sending lawful;
     sent = p.sent;
     wires = p.wires;
     bytes = p.bytes;
     chain = p.chain;
   }
-  puts_one first (order.Renew channel token) c k lawful p = record { sending = p.sending; sent = p.sent; wires = p.wires; bytes = p.bytes; chain = p.chain }
+  puts_done first (order.Renew channel token) c k lawful p = record { sending = p.sending; sent = p.sent; wires = p.wires; bytes = p.bytes; chain = p.chain }
 
-lawful_next : (o : Order) (os : List Order) (c : ChannelState) → AreLawful os (after_order o c.sending) → AreLawful os (obeyed o c).sending
-unfolding put_on
-lawful_next (order.Put w) os c lawful = lawful
-lawful_next (order.Limit l) os c lawful = lawful
-lawful_next (order.Renew channel token) os c lawful = lawful
+-- what is lawful fits, and is done
+lawful_fits : (o : Order) (s : Sending) → IsLawfulOrder o s → fits_in o s ≡ true
+lawful_fits (order.Put w) s lawful = lawful.4
+lawful_fits (order.Limit l) s lawful = refl
+lawful_fits (order.Renew channel token) s lawful = refl
 
-tokens_put : (w : WireState) (c : ChannelState) → tokens_of (obeyed (order.Put w) c).assembly ≡ tokens_of c.assembly
+lawful_done : (o : Order) (c : ChannelState) → IsLawfulOrder o c.sending → obeyed o c ≡ done o c
+lawful_done o c lawful = ap (λ b. cond b (done o c) (undone o c)) (lawful_fits o c.sending lawful)
+
+lawful_after : (o : Order) (os : List Order) (c : ChannelState) → AreLawful os (after_order o c.sending) → AreLawful os (done o c).sending
 unfolding put_on
-tokens_put w c = refl
+lawful_after (order.Put w) os c lawful = lawful
+lawful_after (order.Limit l) os c lawful = lawful
+lawful_after (order.Renew channel token) os c lawful = lawful
+
+tokens_put : (b : Bool) (w : WireState) (c : ChannelState) → tokens_of (cond b (done (order.Put w) c) (undone (order.Put w) c)).assembly ≡ tokens_of c.assembly
+unfolding put_on
+tokens_put true w c = refl
+tokens_put false w c = refl
 
 module _ {C : Type 0} where
   puts_all : (first : ℕ) (os : List Order) (c : ChannelState) (k : MessageState C) → AreLawful os c.sending → Puts first c k.out
       → Puts first (obeyed_all os c) (obeyed_messages os k).out
   puts_all first [] c k lawful p = p
-  puts_all first (o ∷ os) c k lawful p = puts_all first os (obeyed o c) (obeyed_message o k) (lawful_next o os c lawful.1) (puts_one first o c k lawful.0 p)
+  puts_all first (o ∷ os) c k lawful p =
+      subst (λ (d : ChannelState). Puts first (obeyed_all os d) (obeyed_messages os (obeyed_message o k)).out) (sym (lawful_done o c lawful.0))
+      (puts_all first os (done o c) (obeyed_message o k) (lawful_after o os c lawful.1) (puts_done first o c k lawful.0 p))
 
   core_one : (o : Order) (k : MessageState C) → (obeyed_message o k).core ≡ k.core
   core_one (order.Put w) k = refl
@@ -106,7 +135,7 @@ module _ {C : Type 0} where
   core_kept (o ∷ os) k = core_kept os (obeyed_message o k) ∙ core_one o k
 
   tokens_by : (o : Order) (c : ChannelState) (k : MessageState C) → tokens_of c.assembly ≡ k.tokens → tokens_of (obeyed o c).assembly ≡ (obeyed_message o k).tokens
-  tokens_by (order.Put w) c k e = tokens_put w c ∙ e
+  tokens_by (order.Put w) c k e = tokens_put (fits_in (order.Put w) c.sending) w c ∙ e
   tokens_by (order.Limit l) c k e = e
   tokens_by (order.Renew channel token) c k e = ap (renewed_tokens channel token) e
 
@@ -139,20 +168,20 @@ module _ {C : Type 0} (ears : C → Ear) (answer : Heard → C → C × List Ord
 
   told_shows : (b : Bool) (first : ℕ) (h : Heard) (n : NodeState C) (t : Tokens) (out : List WireState) → AreLawful (answer h n.core).1 n.channel.sending → Puts first n.channel out
       → is_deaf (ears (answer h n.core).0) ≡ b → (b ≡ false → tokens_of n.channel.assembly ≡ t)
-      → Shows first (told ears answer h n) (message_told ears answer h (record { core = n.core; tokens = t; out = out }))
+      → Mirrors first (told ears answer h n) (message_told ears answer h (record { core = n.core; tokens = t; out = out }))
   told_shows true first h n t out lawful puts e same =
       let os = (answer h n.core).1 in
       let k0 : MessageState C = record { core = (answer h n.core).0; tokens = t; out = out } in
       let p = puts_all first os n.channel k0 lawful puts in
-      subst (λ x. Shows first x (message_told ears answer h (record { core = n.core; tokens = t; out = out }))) (sym (told_shut h n e))
-      (subst (λ y. Shows first (shut_node ears answer (answered ears answer h n)) y) (sym (message_settles true h n.core t out e))
+      subst (λ x. Mirrors first x (message_told ears answer h (record { core = n.core; tokens = t; out = out }))) (sym (told_shut h n e))
+      (subst (λ y. Mirrors first (shut_node ears answer (answered ears answer h n)) y) (sym (message_settles true h n.core t out e))
       (record { core = sym (core_kept os k0); tokens = refl; sending = p.sending; sent = p.sent; wires = p.wires; bytes = p.bytes; chain = p.chain }))
   told_shows false first h n t out lawful puts e same =
       let os = (answer h n.core).1 in
       let k0 : MessageState C = record { core = (answer h n.core).0; tokens = t; out = out } in
       let p = puts_all first os n.channel k0 lawful puts in
-      subst (λ x. Shows first x (message_told ears answer h (record { core = n.core; tokens = t; out = out }))) (sym (told_open h n e))
-      (subst (λ y. Shows first (answered ears answer h n) y) (sym (message_settles false h n.core t out e))
+      subst (λ x. Mirrors first x (message_told ears answer h (record { core = n.core; tokens = t; out = out }))) (sym (told_open h n e))
+      (subst (λ y. Mirrors first (answered ears answer h n) y) (sym (message_settles false h n.core t out e))
       (record { core = sym (core_kept os k0); tokens = tokens_all os n.channel k0 (same refl); sending = p.sending; sent = p.sent; wires = p.wires; bytes = p.bytes; chain = p.chain }))
 
   -- a fault is no message that goes on
@@ -203,15 +232,15 @@ module _ {C : Type 0} (ears : C → Ear) (answer : Heard → C → C × List Ord
 
   shows_open : (first : ℕ) (m : Sent) (n : NodeState C) (out : List WireState) → deaf ears answer n ≡ false → Deafens ears answer → Follows m n.channel
       → AreLawful (answer (heard_in ears answer m n) n.core).1 n.channel.sending → Puts first n.channel out
-      → Shows first (heard_next ears answer m n) (message_after ears answer m.wire (record { core = n.core; tokens = tokens_of n.channel.assembly; out = out }))
+      → Mirrors first (heard_next ears answer m n) (message_after ears answer m.wire (record { core = n.core; tokens = tokens_of n.channel.assembly; out = out }))
   shows_open first m n out e deafens follows lawful puts =
       let h = heard_in ears answer m n in
       let x = record n { channel = past m n.channel } in
       let k : MessageState C = record { core = n.core; tokens = tokens_of n.channel.assembly; out = out } in
       let t = (hearing_of (ears n.core) m.wire (tokens_of n.channel.assembly)).tokens in
       let p : Puts first x.channel out = record { sending = puts.sending; sent = puts.sent; wires = puts.wires; bytes = puts.bytes; chain = puts.chain } in
-      subst (λ y. Shows first y (message_after ears answer m.wire k)) (sym (next_open ears answer m n e))
-      (subst (λ z. Shows first (told ears answer h x) z) (sym (message_open m.wire k e))
+      subst (λ y. Mirrors first y (message_after ears answer m.wire k)) (sym (next_open ears answer m n e))
+      (subst (λ z. Mirrors first (told ears answer h x) z) (sym (message_open m.wire k e))
       (told_shows (is_deaf (ears (answer h n.core).0)) first h x t out lawful p refl
       (λ d. elim (hears_it ears answer m n e deafens follows).outcome [
         | inl broken ↦ absurd (no_fault h n.core deafens d broken.0 broken.1)
@@ -219,28 +248,28 @@ module _ {C : Type 0} (ears : C → Ear) (answer : Heard → C → C × List Ord
       ])))
 
   shows_by : (b : Bool) (first : ℕ) (m : Sent) (n : NodeState C) (k : MessageState C) → Deafens ears answer → deaf ears answer n ≡ b → (deaf ears answer n ≡ true) ⊎ Follows m n.channel
-      → AreLawful (answer (heard_in ears answer m n) n.core).1 n.channel.sending → Shows first n k
-      → Shows first (heard_next ears answer m n) (message_after ears answer m.wire k)
+      → AreLawful (answer (heard_in ears answer m n) n.core).1 n.channel.sending → Mirrors first n k
+      → Mirrors first (heard_next ears answer m n) (message_after ears answer m.wire k)
   shows_by true first m n k deafens e ready lawful s =
-      subst (λ y. Shows first y (message_after ears answer m.wire k)) (sym (next_deaf ears answer m n e))
-      (subst (λ z. Shows first n z) (sym (message_deaf m.wire k (ap (λ (x : C). is_deaf (ears x)) (sym s.core) ∙ e))) s)
+      subst (λ y. Mirrors first y (message_after ears answer m.wire k)) (sym (next_deaf ears answer m n e))
+      (subst (λ z. Mirrors first n z) (sym (message_deaf m.wire k (ap (λ (x : C). is_deaf (ears x)) (sym s.core) ∙ e))) s)
   shows_by false first m n k deafens e (inl is) lawful s = absurd (true_false ears answer (deaf ears answer n) is e)
   shows_by false first m n k deafens e (inr follows) lawful s =
       let same : k ≡ record { core = n.core; tokens = tokens_of n.channel.assembly; out = k.out } =
       ap (λ (x : C). record { core = x; tokens = k.tokens; out = k.out }) (sym s.core)
       ∙ ap (λ (t : Tokens). record { core = n.core; tokens = t; out = k.out }) (sym s.tokens) in
-      subst (λ z. Shows first (heard_next ears answer m n) (message_after ears answer m.wire z)) (sym same)
+      subst (λ z. Mirrors first (heard_next ears answer m n) (message_after ears answer m.wire z)) (sym same)
       (shows_open first m n k.out e deafens follows lawful (record { sending = s.sending; sent = s.sent; wires = s.wires; bytes = s.bytes; chain = s.chain }))
 
   pub shows_next : (first : ℕ) (m : Sent) (n : NodeState C) (k : MessageState C) → Deafens ears answer → (deaf ears answer n ≡ true) ⊎ Follows m n.channel
-      → AreLawful (answer (heard_in ears answer m n) n.core).1 n.channel.sending → Shows first n k
-      → Shows first (heard_next ears answer m n) (message_after ears answer m.wire k)
+      → AreLawful (answer (heard_in ears answer m n) n.core).1 n.channel.sending → Mirrors first n k
+      → Mirrors first (heard_next ears answer m n) (message_after ears answer m.wire k)
   shows_next first m n k deafens ready lawful s = shows_by (deaf ears answer n) first m n k deafens refl ready lawful s
 
   -- ---- orders and bytes taken
 
-  pub shows_ordered : (first : ℕ) (os : List Order) (n : NodeState C) (k : MessageState C) → AreLawful os n.channel.sending → Shows first n k
-      → Shows first (record n { channel = obeyed_all os n.channel }) (obeyed_messages os k)
+  pub shows_ordered : (first : ℕ) (os : List Order) (n : NodeState C) (k : MessageState C) → AreLawful os n.channel.sending → Mirrors first n k
+      → Mirrors first (record n { channel = obeyed_all os n.channel }) (obeyed_messages os k)
   shows_ordered first os n k lawful s =
       let p = puts_all first os n.channel k lawful (record { sending = s.sending; sent = s.sent; wires = s.wires; bytes = s.bytes; chain = s.chain }) in
       record {
@@ -253,6 +282,6 @@ module _ {C : Type 0} (ears : C → Ear) (answer : Heard → C → C × List Ord
         chain = p.chain;
       }
 
-  pub shows_taken : (first : ℕ) (n : NodeState C) (k : MessageState C) → Shows first n k
-      → Shows n.channel.sending.next (record n { channel = record n.channel { out = [] } }) (record k { out = [] })
+  pub shows_taken : (first : ℕ) (n : NodeState C) (k : MessageState C) → Mirrors first n k
+      → Mirrors n.channel.sending.next (record n { channel = record n.channel { out = [] } }) (record k { out = [] })
   shows_taken first n k s = record { core = s.core; tokens = s.tokens; sending = s.sending; sent = []; wires = refl; bytes = refl; chain = refl }

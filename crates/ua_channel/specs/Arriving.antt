@@ -1,5 +1,5 @@
 -- Messages that one end put, as they come to the other end.
-use Rattle.std.specs.Prelude.{◌≡◌, ◌≤◌, ◌<◌, ◌^◌, ℕ, Bool, true, List, [], ◌∷◌, ◌++◌, length, map, None, ◌⊎◌, if◌then◌else◌}
+use Rattle.std.specs.Prelude.{◌≡◌, ◌≤◌, ◌<◌, ◌^◌, ℕ, true, List, [], ◌∷◌, ◌++◌, length, map, None, ◌⊎◌, if◌then◌else◌}
 use Rattle.ua_chunks.specs.declared.frame.Kind.{Kind}
 use Rattle.ua_chunks.specs.declared.frame.Kind.TheVariants as kind
 use Rattle.ua_chunks.specs.Frames.{moved}
@@ -130,7 +130,7 @@ module _ {C : Type 0} (ears : C → Ear) (answer : Heard → C → C × List Ord
 
 -- an end over bytes and one over messages: the same core and tokens, and what was put and not taken is the bytes of the
 -- messages, whose numbers go on from `first`
-pub record Shows {C : Type 0} (first : ℕ) (n : NodeState C) (k : MessageState C) : Type 0 where
+pub record Mirrors {C : Type 0} (first : ℕ) (n : NodeState C) (k : MessageState C) : Type 0 where
   pub core : n.core ≡ k.core
   pub tokens : tokens_of n.channel.assembly ≡ k.tokens
   pub sending : IsSending n.channel.sending

@@ -1,5 +1,5 @@
 -- The ends of a node's connections: a slab of channels, and an ordered map from each connection's number to its key.
-use Rattle.std.specs.Prelude.{◌≡◌, ◌≢◌, ℕ, List, [], ◌∷◌, Option, Some, None, slice_index_or, unwrap_or}
+use Rattle.std.specs.Prelude.{◌≡◌, ◌≢◌, ℕ, List, [], ◌∷◌, Some, unwrap_or}
 use Rattle.slab.specs.Slab.{Slab, get}
 use Rattle.ua_channel.specs.State.{ChannelState, new_channel}
 

@@ -1,5 +1,5 @@
 -- What an end hears of a frame (OPC 10000-6, 6.7 and 7.1).
-use Rattle.std.specs.Prelude.{◌≡◌, ℕ, Bool, true, false, List, [], ◌∷◌, ◌++◌, Option, Some, None, Result, Ok, Err, if◌then◌else◌}
+use Rattle.std.specs.Prelude.{◌≡◌, ℕ, Bool, true, false, List, ◌++◌, Option, Some, None, Result, Ok, Err, if◌then◌else◌}
 use Rattle.std.specs.Str.{bytes_eq}
 use Rattle.ua_base.specs.Status.{bad_decoding_error, bad_security_policy_rejected, bad_tcp_message_type_invalid}
 use Rattle.ua_values.specs.Reading.{Fault, input}
@@ -112,7 +112,8 @@ abbrev pub fed_on : List ℕ → ChannelState → ChannelState
 fed_on bytes c = record c { framing = kept (after_feed bytes c.framing) }
 
 -- what `feed` answers of an end that was `old`, with the list of frames before and after it
-abbrev pub FeedsOn : {A : Type 0} → Result A FrameFault → ChannelState → List ℕ → ChannelState → List Frame → List Frame → Type 0
+abbrev pub FeedsOn : {A : Type 0} → Result A FrameFault → ChannelState → List ℕ → ChannelState
+    → List Frame → List Frame → Type 0
 FeedsOn (Ok u) old bytes new before after =
     (fault_of (after_feed bytes old.framing).held ≡ None) × (new ≡ fed_on bytes old)
     × (after ≡ before ++ frames_of bytes old.framing)

@@ -5,3 +5,4 @@ pub mod Node
 pub mod Connections
 pub mod Messages
 pub mod Arriving
+pub mod Sharing

@@ -1,5 +1,5 @@
 -- The same end over whole messages: no bytes, no pieces and no numbers, only who is asked for and who answers.
-use Rattle.std.specs.Prelude.{◌≡◌, ℕ, Bool, true, false, ◌==◌, ◌||◌, not, List, [], ◌∷◌, ◌++◌, None, if◌then◌else◌}
+use Rattle.std.specs.Prelude.{ℕ, Bool, true, ◌==◌, ◌||◌, not, List, [], ◌∷◌, ◌++◌, None, if◌then◌else◌}
 use Rattle.ua_base.specs.Status.{bad_secure_channel_token_unknown, bad_tcp_message_type_invalid, bad_tcp_secure_channel_unknown}
 use Rattle.ua_chunks.specs.declared.frame.Kind.{Kind}
 use Rattle.ua_chunks.specs.declared.frame.Kind.TheVariants as kind

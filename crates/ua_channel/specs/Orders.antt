@@ -1,5 +1,5 @@
 -- What an end does by orders: messages put, limits learned, a channel renewed (OPC 10000-6, 6.7).
-use Rattle.std.specs.Prelude.{◌≡◌, ◌<◌, ℕ, Bool, true, false, ◌||◌, nat_le, List, [], ◌∷◌, ◌++◌, length, Result, Ok, Err}
+use Rattle.std.specs.Prelude.{◌≡◌, ℕ, Bool, true, false, ◌||◌, nat_le, List, [], ◌∷◌, ◌++◌, length, Result, Ok, Err, if◌then◌else◌}
 use Rattle.ua_chunks.specs.declared.frame.Kind.{Kind}
 use Rattle.ua_chunks.specs.declared.frame.Kind.TheVariants as kind
 use Rattle.ua_chunks.specs.Assembly.{renewed}
@@ -8,7 +8,7 @@ use Rattle.ua_channel.specs.declared.fault.ChannelFault.{ChannelFault}
 use Rattle.ua_channel.specs.declared.fault.ChannelFault.TheVariants as faults
 use Rattle.ua_channel.specs.declared.wire.Order.{Order}
 use Rattle.ua_channel.specs.declared.wire.Order.TheVariants as order
-use Rattle.ua_channel.specs.State.{ChannelState, LimitState, WireState}
+use Rattle.ua_channel.specs.State.{ChannelState, WireState}
 
 -- ---- how much is put
 
@@ -59,34 +59,39 @@ put_on w c = record c {
 
 -- ---- orders
 
-abbrev pub obeyed : Order → ChannelState → ChannelState
-obeyed (order.Put w) c = put_on w c
-obeyed (order.Limit l) c = record c { sending = with_limits l.size l.max_message l.max_chunks c.sending }
-obeyed (order.Renew channel token) c = record c { assembly = renewed channel token c.assembly }
-
-abbrev pub obeyed_all : List Order → ChannelState → ChannelState
-obeyed_all [] c = c
-obeyed_all (o ∷ orders) c = obeyed_all orders (obeyed o c)
-
--- limits and renewals are always obeyed
+-- limits and renewals always fit
 abbrev pub fits_in : Order → Sending → Bool
 fits_in (order.Put w) s = is_fitting w s
 fits_in (order.Limit l) s = true
 fits_in (order.Renew channel token) s = true
+
+abbrev pub done : Order → ChannelState → ChannelState
+done (order.Put w) c = put_on w c
+done (order.Limit l) c = record c { sending = with_limits l.size l.max_message l.max_chunks c.sending }
+done (order.Renew channel token) c = record c { assembly = renewed channel token c.assembly }
+
+-- a message that wasn't put leaves its channel and token alone
+abbrev pub undone : Order → ChannelState → ChannelState
+undone (order.Put w) c = record c { sending = renewed_for w c.sending }
+undone (order.Limit l) c = c
+undone (order.Renew channel token) c = c
+
+-- a message that doesn't fit isn't put
+abbrev pub obeyed : Order → ChannelState → ChannelState
+obeyed o c = if fits_in o c.sending then done o c else undone o c
+
+abbrev pub obeyed_all : List Order → ChannelState → ChannelState
+obeyed_all [] c = c
+obeyed_all (o ∷ orders) c = obeyed_all orders (obeyed o c)
 
 abbrev pub size_of : Order → ℕ
 size_of (order.Put w) = length w.body
 size_of (order.Limit l) = 0
 size_of (order.Renew channel token) = 0
 
-abbrev pub unput : Order → ChannelState → ChannelState
-unput (order.Put w) c = record c { sending = renewed_for w c.sending }
-unput (order.Limit l) c = c
-unput (order.Renew channel token) c = c
-
 -- what `obey` answers of an end that was `old`: it puts exactly what fits
 abbrev pub Obeys : {A : Type 0} → Result A ChannelFault → Order → ChannelState → ChannelState → Type 0
-Obeys (Ok u) o old new = (fits_in o old.sending ≡ true) × (new ≡ obeyed o old)
+Obeys (Ok u) o old new = (fits_in o old.sending ≡ true) × (new ≡ done o old)
 Obeys (Err (faults.TooLarge size limit)) o old new =
-    (fits_in o old.sending ≡ false) × (size ≡ size_of o) × (limit ≡ limit_of old.sending) × (new ≡ unput o old)
-Obeys (Err faults.OutOfMemory) o old new = new ≡ unput o old
+    (fits_in o old.sending ≡ false) × (size ≡ size_of o) × (limit ≡ limit_of old.sending) × (new ≡ undone o old)
+Obeys (Err faults.OutOfMemory) o old new = new ≡ undone o old

@@ -1,11 +1,10 @@
-ghost use Rattle.std.specs.Prelude.{[], ◌≡◌, ◌≤◌, None, Err, IfOk, OnOk};
+ghost use Rattle.std.specs.Prelude.{[], ◌≡◌, ◌≤◌, None, Err, IfOk, OnErr, OnOk};
 ghost use Rattle.ua_values.specs.Reading.{input};
 ghost use Rattle.ua_chunks.specs.Assembly.{takes_number};
 ghost use Rattle.ua_chunks.specs.Bodies.{opn_head_at, opn_of};
-ghost use Rattle.ua_chunks.specs.Frames.{fault_of};
 ghost use Rattle.ua_chunks.specs.Sending.{limit_of};
-ghost use Rattle.ua_channel.specs.Hearing.{FeedsOn, chunk_heard, heard_of, hearing, is_none_policy, number_taken, opened};
-ghost use Rattle.ua_channel.specs.Hearing.{opening_heard, with_assembly};
+ghost use Rattle.ua_channel.specs.Hearing.{FeedsOn, chunk_heard, heard_of, hearing, is_none_policy, number_taken};
+ghost use Rattle.ua_channel.specs.Hearing.{opened, opening_heard, with_assembly};
 ghost use Rattle.ua_channel.specs.Orders.{Obeys, fits, put_on};
 ghost use Rattle.ua_channel.specs.State.{held_in, new_channel, shut};
 ghost use Rattle.ua_chunks.specs.declared.frame.Kind.TheVariants as kind;
@@ -23,16 +22,13 @@ use ua_base::status::{
     BAD_DECODING_ERROR, BAD_SECURITY_POLICY_REJECTED, BAD_TCP_MESSAGE_TYPE_INVALID,
 };
 use ua_chunks::{
-    Assembler, Body, Frame, FrameFault, Framer, Kind, OpnChunk, PutFault, Sender, read_opn,
+    Assembler, Body, Frame, FrameFault, Framer, Kind, NONE_POLICY, PutFault, Sender, read_opn,
     read_policy, write_frame,
 };
 use ua_values::{UaText, ValueFault};
 
 /// How many bytes an end holds at most of what came and is no whole message.
 pub const MOST_HELD: usize = 1_114_111;
-
-/// The policy of channels that sign and encrypt nothing.
-const NONE_POLICY: &[u8] = b"http://opcfoundation.org/UA/SecurityPolicy#None";
 
 /// One end of a connection: it makes frames of bytes, messages of frames, and bytes of messages.
 #[derive(Debug, Drop)]
@@ -114,7 +110,7 @@ impl Channel {
     ///
     /// # Errors
     ///
-    /// Want of memory; the number of an OPN may have been taken by then.
+    /// Want of memory; all stays as it was.
     #[tactic(auto, unfolding(crate::specs::Hearing::hearing))]
     pub fn hear(
         &mut self,
@@ -125,6 +121,7 @@ impl Channel {
         ensures said { IfOk result (λ heard. heard ≡ (hearing ear frame.now self.old.assembly).heard) }
         ensures state { OnOk result (self.new
             ≡ with_assembly (hearing ear frame.now self.old.assembly).assembly self.old) }
+        ensures unchanged { OnErr result (self.new ≡ self.old) }
     {
         if ear.takes(frame.kind) {
             self.frame(alloc, frame)
@@ -141,6 +138,7 @@ impl Channel {
             heard ≡ (heard_of frame.now.kind frame.now self.old.assembly).heard) }
         ensures state { OnOk result (self.new
             ≡ with_assembly (heard_of frame.now.kind frame.now self.old.assembly).assembly self.old) }
+        ensures unchanged { OnErr result (self.new ≡ self.old) }
     {
         match frame.kind {
             Kind::Hel | Kind::Ack => {
@@ -162,6 +160,7 @@ impl Channel {
         ensures said { IfOk result (λ heard. heard ≡ (chunk_heard kind.Msg frame.now self.old.assembly).heard) }
         ensures state { OnOk result (self.new
             ≡ with_assembly (chunk_heard kind.Msg frame.now self.old.assembly).assembly self.old) }
+        ensures unchanged { OnErr result (self.new ≡ self.old) }
     {
         match self.assembler.add(alloc, frame) {
             Ok(None) => Ok(None),
@@ -178,6 +177,7 @@ impl Channel {
         ensures said { IfOk result (λ heard. heard ≡ (chunk_heard kind.Clo frame.now self.old.assembly).heard) }
         ensures state { OnOk result (self.new
             ≡ with_assembly (chunk_heard kind.Clo frame.now self.old.assembly).assembly self.old) }
+        ensures unchanged { OnErr result (self.new ≡ self.old) }
     {
         match self.assembler.add(alloc, frame) {
             Ok(None) => Ok(None),
@@ -192,6 +192,7 @@ impl Channel {
         ensures said { IfOk result (λ heard. heard ≡ (opening_heard body.now self.old.assembly).heard) }
         ensures state { OnOk result (self.new
             ≡ with_assembly (opening_heard body.now self.old.assembly).assembly self.old) }
+        ensures unchanged { OnErr result (self.new ≡ self.old) }
     {
         match read_policy(alloc, body) {
             Ok(policy) => {
@@ -216,6 +217,7 @@ impl Channel {
             heard ≡ (opened (opn_of (opn_head_at (input 0 body.now))) self.old.assembly).heard) }
         ensures state { OnOk result (self.new
             ≡ with_assembly (opened (opn_of (opn_head_at (input 0 body.now))) self.old.assembly).assembly self.old) }
+        ensures unchanged { OnErr result (self.new ≡ self.old) }
     {
         match read_opn(alloc, body) {
             Ok(chunk) => {

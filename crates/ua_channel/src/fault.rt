@@ -1,10 +1,11 @@
 use thiserror::Error;
 use ua_base::OutOfMemory;
 
-/// Why an order was not obeyed, or bytes were not taken to their end.
+/// Why an order was not obeyed.
 #[derive(Clone, Copy, Debug, PartialEq, Eq, Error)]
 pub enum ChannelFault {
-    /// A message of `size` bytes was to be put, and may have `limit`. Whoever asks `Channel::fits` first never meets it.
+    /// A message of `size` bytes was to be put, and may have `limit`. Whoever asks `Channel::fits` first never meets
+    /// it.
     #[error("a message of {size} bytes, where {limit} are the most")]
     TooLarge { size: u64, limit: u64 },
     /// Memory was refused.

@@ -1,7 +1,7 @@
 //! Laws of ends, for any core, each the contract of a function that does nothing.
 
 ghost use Rattle.std.specs.Prelude.{[], ◌≡◌, ◌⊎◌, ℕ, List, ◌++◌, true};
-ghost use Rattle.ua_channel.specs.Arriving.{AreLawful, Arrive, Expects, Follows, Sent, Shows, after_sent, bytes_of};
+ghost use Rattle.ua_channel.specs.Arriving.{AreLawful, Arrive, Expects, Follows, Sent, Mirrors, after_sent, bytes_of};
 ghost use Rattle.ua_channel.specs.Arriving.{HearsFront, heard_all, heard_in, heard_next};
 ghost use Rattle.ua_channel.specs.declared.wire.Order.{Order};
 ghost use Rattle.ua_channel.specs.Messages.{MessageState, message_after, no_tokens, obeyed_messages};
@@ -48,19 +48,19 @@ pub fn numbers_go_on<C: Core>()
 /// same core, the same tokens, and of the messages put the bytes in their order. So it does where orders come from
 /// elsewhere, and where the bytes are taken.
 pub fn messages_show_bytes<C: Core>()
-    ensures begin { (core : C) → Shows 1 (node_of core new_channel)
+    ensures begin { (core : C) → Mirrors 1 (node_of core new_channel)
         (record { core = core; tokens = no_tokens; out = [] }) }
     ensures next { (conn : ℕ) (first : ℕ) (m : Sent) (n : NodeState C) (k : MessageState C)
         → Deafens (C.ears conn) (C.answer conn)
         → (deaf (C.ears conn) (C.answer conn) n ≡ true) ⊎ Follows m n.channel
         → AreLawful (C.answer conn (heard_in (C.ears conn) (C.answer conn) m n) n.core).1 n.channel.sending
-        → Shows first n k
-        → Shows first (heard_next (C.ears conn) (C.answer conn) m n)
+        → Mirrors first n k
+        → Mirrors first (heard_next (C.ears conn) (C.answer conn) m n)
         (message_after (C.ears conn) (C.answer conn) m.wire k) }
     ensures ordered { (first : ℕ) (orders : List Order) (n : NodeState C) (k : MessageState C)
-        → AreLawful orders n.channel.sending → Shows first n k
-        → Shows first (record n { channel = obeyed_all orders n.channel }) (obeyed_messages orders k) }
-    ensures taken { (first : ℕ) (n : NodeState C) (k : MessageState C) → Shows first n k
-        → Shows n.channel.sending.next (record n { channel = record n.channel { out = [] } })
+        → AreLawful orders n.channel.sending → Mirrors first n k
+        → Mirrors first (record n { channel = obeyed_all orders n.channel }) (obeyed_messages orders k) }
+    ensures taken { (first : ℕ) (n : NodeState C) (k : MessageState C) → Mirrors first n k
+        → Mirrors n.channel.sending.next (record n { channel = record n.channel { out = [] } })
         (record k { out = [] }) }
 {}

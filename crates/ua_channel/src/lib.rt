@@ -6,6 +6,7 @@ mod channels;
 mod ear;
 mod fault;
 mod heard;
+mod hub;
 mod laws;
 mod node;
 mod wire;
@@ -15,6 +16,7 @@ pub use channels::Channels;
 pub use ear::Ear;
 pub use fault::ChannelFault;
 pub use heard::Heard;
+pub use hub::{Hub, Rest};
 pub use laws::{
     fronts_are_heard, messages_are_heard, messages_show_bytes, numbers_go_on, pieces_are_one,
 };

@@ -1,11 +1,10 @@
-ghost use Rattle.std.specs.Prelude.{◌≡◌, ◌++◌, ℕ, List, OnOk};
+ghost use Rattle.std.specs.Prelude.{◌≡◌, ◌++◌, ℕ, List, OnOk, Some};
 ghost use Rattle.ua_channel.specs.declared.ear.Ear.{Ear};
 ghost use Rattle.ua_channel.specs.declared.heard.Heard.{Heard};
-ghost use Rattle.ua_channel.specs.declared.heard.Heard.TheVariants as said;
 ghost use Rattle.ua_channel.specs.declared.wire.Order.{Order};
-ghost use Rattle.ua_channel.specs.Hearing.{fed_on};
-ghost use Rattle.ua_channel.specs.Node.{deaf, node_after, node_of, settled, stepped, told, told_if, with_fault, with_frame, with_frames};
-ghost use Rattle.ua_channel.specs.Orders.{obeyed_all};
+ghost use Rattle.ua_channel.specs.Node.{node_after, node_of, settled, stepped, told, with_fault, with_frame};
+ghost use Rattle.ua_channel.specs.Node.{with_frames};
+ghost use Rattle.ua_channel.specs.Orders.{obeyed, obeyed_all};
 
 use crate::channel::Channel;
 use crate::ear::Ear;
@@ -39,12 +38,26 @@ pub trait Core: Drop {
         ensures orders { OnOk result (to.new.items ≡ to.old.items ++ (answer conn heard.now self.old).1) };
 }
 
+/// Obeys an order. A message that doesn't fit isn't put.
+pub(crate) fn obey_one(
+    alloc: Global,
+    channel: &mut Channel,
+    order: &Order,
+) -> Result<(), OutOfMemory>
+    ensures { OnOk result (channel.new ≡ obeyed order.now channel.old) }
+{
+    match channel.obey(alloc, order) {
+        Ok(()) | Err(ChannelFault::TooLarge { .. }) => Ok(()),
+        Err(ChannelFault::OutOfMemory) => Err(OutOfMemory),
+    }
+}
+
 /// Obeys orders in turn.
-fn obey_all(alloc: Global, channel: &mut Channel, orders: &[Order]) -> Result<(), ChannelFault>
+fn obey_all(alloc: Global, channel: &mut Channel, orders: &[Order]) -> Result<(), OutOfMemory>
     ensures { OnOk result (channel.new ≡ obeyed_all orders.now channel.old) }
 {
     for order in orders {
-        channel.obey(alloc, order)?;
+        obey_one(alloc, channel, order)?;
     }
     Ok(())
 }
@@ -67,7 +80,7 @@ fn tell<C: Core>(
     conn: u32,
     channel: &mut Channel,
     heard: &Heard,
-) -> Result<(), ChannelFault>
+) -> Result<(), OutOfMemory>
     ensures { OnOk result (node_of core.new channel.new
         ≡ told (C.ears conn) (C.answer conn) heard.now (node_of core.old channel.old)) }
 {
@@ -86,7 +99,7 @@ fn take_frame<C: Core>(
     conn: u32,
     channel: &mut Channel,
     frame: &Frame,
-) -> Result<(), ChannelFault>
+) -> Result<(), OutOfMemory>
     ensures { OnOk result (node_of core.new channel.new
         ≡ with_frame (C.ears conn) (C.answer conn) frame.now (node_of core.old channel.old)) }
 {
@@ -107,7 +120,7 @@ fn take_frames<C: Core>(
     conn: u32,
     channel: &mut Channel,
     frames: &[Frame],
-) -> Result<(), ChannelFault>
+) -> Result<(), OutOfMemory>
     ensures { OnOk result (node_of core.new channel.new
         ≡ with_frames (C.ears conn) (C.answer conn) frames.now (node_of core.old channel.old)) }
 {
@@ -124,7 +137,7 @@ fn take_fault<C: Core>(
     conn: u32,
     channel: &mut Channel,
     code: u32,
-) -> Result<(), ChannelFault>
+) -> Result<(), OutOfMemory>
     ensures { OnOk result (node_of core.new channel.new
         ≡ with_fault (C.ears conn) (C.answer conn) (Some code) (node_of core.old channel.old)) }
 {
@@ -142,7 +155,7 @@ fn step<C: Core>(
     conn: u32,
     channel: &mut Channel,
     bytes: &[u8],
-) -> Result<(), ChannelFault>
+) -> Result<(), OutOfMemory>
     ensures { OnOk result (node_of core.new channel.new
         ≡ stepped (C.ears conn) (C.answer conn) bytes.now (node_of core.old channel.old)) }
 {
@@ -153,17 +166,17 @@ fn step<C: Core>(
             take_frames(alloc, core, conn, channel, &frames)?;
             take_fault(alloc, core, conn, channel, code)
         }
-        Err(FrameFault::OutOfMemory) => Err(ChannelFault::OutOfMemory),
+        Err(FrameFault::OutOfMemory) => Err(OutOfMemory),
     }
 }
 
 /// Takes some bytes of a connection's stream: the frames that they make whole are heard one by one, the core answers
-/// each message, and its orders are obeyed before the next frame.
+/// each message, and its orders are obeyed before the next frame. A message that doesn't fit isn't put: a core that
+/// asks `Channel::fits` first, or knows the other end's limits, never has one.
 ///
 /// # Errors
 ///
-/// `TooLarge` where the core had a message put that doesn't fit, and want of memory. Nothing is said of what stands
-/// then.
+/// Want of memory. Nothing is said of what stands then.
 #[tactic(auto, unfolding(crate::specs::Node::node_after))]
 pub fn take_bytes<C: Core>(
     alloc: Global,
@@ -171,7 +184,7 @@ pub fn take_bytes<C: Core>(
     conn: u32,
     channel: &mut Channel,
     bytes: &[u8],
-) -> Result<(), ChannelFault>
+) -> Result<(), OutOfMemory>
     ensures { OnOk result (node_of core.new channel.new
         ≡ node_after (C.ears conn) (C.answer conn) bytes.now (node_of core.old channel.old)) }
 {

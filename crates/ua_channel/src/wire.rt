@@ -32,7 +32,8 @@ impl Model for Wire {
 }
 
 impl Wire {
-    /// A MSG, or an OPN or a CLO of at most 4096 bytes, with the channel, the token and the request that it is put with.
+    /// A MSG, or an OPN or a CLO of at most 4096 bytes, with the channel, the token and the request that it is put
+    /// with.
     /// A HEL, an ACK or an ERR has at most 65,528 bytes, and shows none of the three.
     pub fn new(kind: Kind, channel: u32, token: u32, request: u32, body: Vec<u8>) -> Wire
         requires { MayCarry kind (length body.items) }

@@ -214,10 +214,10 @@ impl Header {
         ensures { result ≡ header_of head.now }
     {
         let (letters, size) = head.split_at(4);
-        Header::judged(Letters::of(letters), LittleEndian::read_u32(size))
+        Header::of_letters(Letters::of(letters), LittleEndian::read_u32(size))
     }
 
-    fn judged(letters: Option<Letters>, size: u32) -> Result<Header, u32>
+    fn of_letters(letters: Option<Letters>, size: u32) -> Result<Header, u32>
         ensures { result ≡ judged_header letters size }
     {
         let Some(letters) = letters else {

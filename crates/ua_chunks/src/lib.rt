@@ -26,5 +26,5 @@ pub use laws::{
 };
 pub use message::{Assembler, MOST_CHUNKS, MOST_MESSAGE, Message};
 pub use opening::{OpnChunk, read_opn, read_policy};
-pub use sender::{PutFault, Sender};
+pub use sender::{NONE_POLICY, PutFault, Sender};
 pub use writing::write_frame;

@@ -19,8 +19,8 @@ use ua_values::{append, write_uint32};
 /// How many bytes of a frame are not a message's: the frame's header and the chunk's.
 const HEADERS: u32 = 24;
 
-/// The policy of channels that sign and encrypt nothing.
-const NONE_POLICY: &[u8] = b"http://opcfoundation.org/UA/SecurityPolicy#None";
+/// The policy of channels that sign and encrypt nothing (OPC 10000-7).
+pub const NONE_POLICY: &[u8] = b"http://opcfoundation.org/UA/SecurityPolicy#None";
 
 /// Why a message was not put.
 #[derive(Clone, Copy, Debug, PartialEq, Eq, Error)]

@@ -1,11 +1,8 @@
-use Rattle.std.proofs.Common.{◌≡◌, ◌∙◌, ℕ, List, Option, Some, None, sym, ap, subst, unwrap_or}
+use Rattle.std.proofs.Common.{◌∙◌, sym, ap}
 use Rattle.std.specs.Ordering.{nat_cmp}
-use Rattle.std.specs.BTreeMap.{insert_entry, is_at}
-use Rattle.std.specs.Map.{lookup, remove_entry, set_value}
-use Rattle.slab.specs.Slab.{Slab, get}
-use Rattle.ua_channel.specs.State.{ChannelState, new_channel}
-use Rattle.ua_channel.specs.Connections.{AreHeld, shown}
-use Rattle.ua_channel.proofs.Slots.{Inserts, among, found_at, found_none, held_all, held_at, inserts, removes, sets, shown_all, unremoved, unset, vacant}
+use Rattle.std.specs.BTreeMap.{is_at}
+use Rattle.std.specs.Map.{lookup}
+use Rattle.ua_channel.proofs.Slots.{found_at, found_none}
 use Rattle.ua_channel.proofs.channels.Channels.at.Goals as goal
 
 pub returns-in-Some : goal.returns-in-Some

@@ -1,11 +1,10 @@
-use Rattle.std.proofs.Common.{◌≡◌, ◌∙◌, ℕ, List, Option, Some, None, sym, ap, subst, unwrap_or}
+use Rattle.std.proofs.Common.{◌≡◌, ◌∙◌, ℕ, List, Some, sym, ap, subst}
 use Rattle.std.specs.Ordering.{nat_cmp}
-use Rattle.std.specs.BTreeMap.{insert_entry, is_at}
-use Rattle.std.specs.Map.{lookup, remove_entry, set_value}
+use Rattle.std.specs.BTreeMap.{insert_entry}
 use Rattle.slab.specs.Slab.{Slab, get}
 use Rattle.ua_channel.specs.State.{ChannelState, new_channel}
 use Rattle.ua_channel.specs.Connections.{AreHeld, shown}
-use Rattle.ua_channel.proofs.Slots.{Inserts, among, found_at, found_none, held_all, held_at, inserts, removes, sets, shown_all, unremoved, unset, vacant}
+use Rattle.ua_channel.proofs.Slots.{Inserts, held_all, inserts, shown_all, vacant}
 use Rattle.ua_channel.proofs.channels.Channels.open.Goals as goal
 
 pub invariant_of-self : goal.invariant_of-self
