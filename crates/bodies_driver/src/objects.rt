@@ -130,7 +130,12 @@ where
     }
 }
 
-fn tell_held<T: Contents>(alloc: Global, verb: Verb, bytes: &[u8], to: &mut String) -> Result<(), Stop>
+fn tell_held<T: Contents>(
+    alloc: Global,
+    verb: Verb,
+    bytes: &[u8],
+    to: &mut String,
+) -> Result<(), Stop>
 where
     T::Value: Body,
 {

@@ -46,7 +46,7 @@ pub fn values_are_sent()
         (0x01 ∷ 0x8C ∷ written_array written_text (nodes.uri ∷ [])) }
     ensures namespace_array { (nodes : Nodes) → Sends nodes (id.Numeric 0 2255)
         (0x01 ∷ 0x8C ∷ written_array written_text (Some (codes "http://opcfoundation.org/UA/") ∷ nodes.uri ∷ Some
-            (codes "urn:uaset:plant") ∷ [])) }
+        (codes "urn:uaset:plant") ∷ [])) }
     ensures start_time { (nodes : Nodes) → Sends nodes (id.Numeric 0 2257)
         (0x01 ∷ 0x0D ∷ written_signed 8 w64 nodes.start) }
     ensures current_time { (nodes : Nodes) → Sends nodes (id.Numeric 0 2258)

@@ -14,7 +14,7 @@ pub fn keeps_what_is_available<M: Drop>()
     ensures newest { (history : List (Call M)) → AreNewest (kept_after history) (unacknowledged history) }
     ensures recent { (number : ℕ) (history : List (Call M)) → sendings_since number history < 64
         → message_of number (kept_after history) ≡
-            (if acknowledged number history then None else last_sent number history) }
+        (if acknowledged number history then None else last_sent number history) }
     ensures single { (number : ℕ) (history : List (Call M))
         → length (filter (λ sent. sent.number == number) (kept_after history)) ≤ 1 }
 {}

@@ -5,3 +5,4 @@ pub mod Coming
 pub mod Showing
 pub mod Beginning
 pub mod Sharings
+pub mod Chaining

@@ -11,11 +11,11 @@ use Rattle.ua_channel.specs.declared.heard.Heard.{Heard}
 use Rattle.ua_channel.specs.declared.heard.Heard.TheVariants as said
 use Rattle.ua_channel.specs.declared.wire.Order.{Order}
 use Rattle.ua_channel.specs.declared.wire.Order.TheVariants as order
-use Rattle.ua_channel.specs.State.{ChannelState, WireState, is_deaf}
+use Rattle.ua_channel.specs.State.{ChannelState, WireState, is_deaf, shut}
 use Rattle.ua_channel.specs.Orders.{done, fits_in, obeyed, obeyed_all, put_on, renewed_for, undone}
-use Rattle.ua_channel.specs.Messages.{MessageState, hearing_of, is_deaf_end, message_after, message_told, no_tokens, obeyed_message, obeyed_messages}
+use Rattle.ua_channel.specs.Messages.{MessageState, hearing_of, is_deaf_end, message_after, message_told, no_tokens, obeyed_message, obeyed_messages, settled_messages}
 use Rattle.ua_channel.specs.Arriving.{AreLawful, Chain, Expects, Follows, IsLawfulOrder, IsSent, Sent, Mirrors, after_order, after_sent, bytes_of, heard_in, heard_next, past, sent_bytes}
-use Rattle.ua_channel.specs.Node.{Deafens, NodeState, answered, deaf, told}
+use Rattle.ua_channel.specs.Node.{Deafens, NodeState, answered, deaf, settled, told}
 use Rattle.ua_channel.proofs.Cutting.{settled_open, settled_shut, shut_node}
 use Rattle.ua_channel.proofs.Coming.{hears_it, next_deaf, next_open, true_false}
 
@@ -281,6 +281,16 @@ module _ {C : Type 0} (ears : C → Ear) (answer : Heard → C → C × List Ord
         bytes = p.bytes;
         chain = p.chain;
       }
+
+  settled_by : (b : Bool) (first : ℕ) (n : NodeState C) (k : MessageState C) → Mirrors first n k
+      → Mirrors first (cond b (record n { channel = shut n.channel }) n) (cond b (record k { tokens = no_tokens }) k)
+  settled_by true first n k s = record { core = s.core; tokens = refl; sending = s.sending; sent = s.sent; wires = s.wires; bytes = s.bytes; chain = s.chain }
+  settled_by false first n k s = s
+
+  -- an end that is shut where it is deaf
+  pub shows_settled : (first : ℕ) (n : NodeState C) (k : MessageState C) → Mirrors first n k → Mirrors first (settled ears answer n) (settled_messages ears answer k)
+  shows_settled first n k s =
+      subst (λ b. Mirrors first (settled ears answer n) (cond b (record k { tokens = no_tokens }) k)) (ap (λ (c : C). is_deaf (ears c)) s.core) (settled_by (deaf ears answer n) first n k s)
 
   pub shows_taken : (first : ℕ) (n : NodeState C) (k : MessageState C) → Mirrors first n k
       → Mirrors n.channel.sending.next (record n { channel = record n.channel { out = [] } }) (record k { out = [] })

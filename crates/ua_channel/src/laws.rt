@@ -1,11 +1,12 @@
 //! Laws of ends, for any core, each the contract of a function that does nothing.
 
 ghost use Rattle.std.specs.Prelude.{[], ◌≡◌, ◌⊎◌, ℕ, List, ◌++◌, true};
-ghost use Rattle.ua_channel.specs.Arriving.{AreLawful, Arrive, Expects, Follows, Sent, Mirrors, after_sent, bytes_of};
+ghost use Rattle.ua_channel.specs.Arriving.{AreLawful, Arrive, Chain, Expects, Follows, Mirrors, Sent, after_sent, bytes_of};
 ghost use Rattle.ua_channel.specs.Arriving.{HearsFront, heard_all, heard_in, heard_next};
 ghost use Rattle.ua_channel.specs.declared.wire.Order.{Order};
 ghost use Rattle.ua_channel.specs.Messages.{MessageState, message_after, no_tokens, obeyed_messages};
-ghost use Rattle.ua_channel.specs.Node.{Deafens, NodeState, deaf, node_after, node_of};
+ghost use Rattle.ua_channel.specs.Messages.{settled_messages};
+ghost use Rattle.ua_channel.specs.Node.{Deafens, NodeState, deaf, node_after, node_of, settled};
 ghost use Rattle.ua_channel.specs.Orders.{obeyed_all};
 ghost use Rattle.ua_channel.specs.State.{new_channel};
 
@@ -44,9 +45,18 @@ pub fn numbers_go_on<C: Core>()
         ⊎ Expects (after_sent m).next (heard_next (C.ears conn) (C.answer conn) m n).channel }
 {}
 
+/// Messages whose numbers follow each other arrive at an end that is deaf, or awaits the first one's number: so all of
+/// them are heard.
+pub fn chains_arrive<C: Core>()
+    ensures { (conn first next : ℕ) (sent : List Sent) (n : NodeState C) → Deafens (C.ears conn) (C.answer conn)
+        → Chain first sent next
+        → (deaf (C.ears conn) (C.answer conn) n ≡ true) ⊎ Expects first n.channel
+        → Arrive (C.ears conn) (C.answer conn) sent n }
+{}
+
 /// An end over whole messages, without bytes, pieces and numbers, shows what the end over bytes does, step by step: the
 /// same core, the same tokens, and of the messages put the bytes in their order. So it does where orders come from
-/// elsewhere, and where the bytes are taken.
+/// elsewhere, where a deaf end is shut, and where the bytes are taken.
 pub fn messages_show_bytes<C: Core>()
     ensures begin { (core : C) → Mirrors 1 (node_of core new_channel)
         (record { core = core; tokens = no_tokens; out = [] }) }
@@ -60,6 +70,8 @@ pub fn messages_show_bytes<C: Core>()
     ensures ordered { (first : ℕ) (orders : List Order) (n : NodeState C) (k : MessageState C)
         → AreLawful orders n.channel.sending → Mirrors first n k
         → Mirrors first (record n { channel = obeyed_all orders n.channel }) (obeyed_messages orders k) }
+    ensures shut { (conn : ℕ) (first : ℕ) (n : NodeState C) (k : MessageState C) → Mirrors first n k
+        → Mirrors first (settled (C.ears conn) (C.answer conn) n) (settled_messages (C.ears conn) (C.answer conn) k) }
     ensures taken { (first : ℕ) (n : NodeState C) (k : MessageState C) → Mirrors first n k
         → Mirrors n.channel.sending.next (record n { channel = record n.channel { out = [] } })
         (record k { out = [] }) }

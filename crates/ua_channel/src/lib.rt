@@ -18,7 +18,8 @@ pub use fault::ChannelFault;
 pub use heard::Heard;
 pub use hub::{Hub, Rest};
 pub use laws::{
-    fronts_are_heard, messages_are_heard, messages_show_bytes, numbers_go_on, pieces_are_one,
+    chains_arrive, fronts_are_heard, messages_are_heard, messages_show_bytes, numbers_go_on,
+    pieces_are_one,
 };
 pub use node::{Core, take_bytes};
 pub use wire::{Limits, Order, Wire};

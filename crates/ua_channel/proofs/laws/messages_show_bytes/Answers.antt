@@ -1,4 +1,4 @@
-use Rattle.ua_channel.proofs.Showing.{shows_next, shows_ordered, shows_taken}
+use Rattle.ua_channel.proofs.Showing.{shows_next, shows_ordered, shows_settled, shows_taken}
 use Rattle.ua_channel.proofs.laws.messages_show_bytes.Goals as goal
 
 pub returns-clause-next : goal.returns-clause-next
@@ -9,3 +9,6 @@ returns-clause-ordered g c = λ first orders n k lawful s. shows_ordered (g.C.Co
 
 pub returns-clause-taken : goal.returns-clause-taken
 returns-clause-taken g c = λ first n k s. shows_taken (g.C.Core.ears 0) (g.C.Core.answer 0) first n k s
+
+pub returns-clause-shut : goal.returns-clause-shut
+returns-clause-shut g c = λ conn first n k s. shows_settled (g.C.Core.ears conn) (g.C.Core.answer conn) first n k s
