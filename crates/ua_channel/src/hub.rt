@@ -84,9 +84,7 @@ fn share(
     ensures channels { OnOk result (channels.new ≡ others conn orders.items channels.old) }
     ensures own { OnOk result (to.new.items ≡ to.old.items ++ own conn orders.items) }
 {
-    let mut rest = orders;
-    while !rest.is_empty() {
-        let entry = rest.remove(0);
+    for entry in orders {
         share_one(alloc, channels, conn, entry, to)?;
     }
     Ok(())
