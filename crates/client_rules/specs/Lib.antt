@@ -1,0 +1,9 @@
+pub mod State
+pub mod Arrival
+pub mod Acts
+pub mod Doing
+pub mod Links
+pub mod Settling
+pub mod Dialling
+pub mod Step
+pub mod History

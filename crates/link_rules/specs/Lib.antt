@@ -1,0 +1,14 @@
+pub mod State
+pub mod Said
+pub mod Closing
+pub mod Asking
+pub mod Requests
+pub mod Numbers
+pub mod Messages
+pub mod Publishing
+pub mod Ready
+pub mod Subscribing
+pub mod Starting
+pub mod Opening
+pub mod Time
+pub mod Step

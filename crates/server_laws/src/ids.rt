@@ -1,0 +1,51 @@
+//! Ids and tokens of a life, and of two lives.
+ghost use Rattle.std.specs.Prelude.{◌≡◌, ◌<◌, ◌∷◌, ◌*◌, ◌+◌, ◌-◌, ◌^◌, ◌⊎◌, [], ℕ, List, map};
+ghost use Rattle.ua_base.specs.Number.{after_message};
+ghost use Rattle.set_model.specs.declared.source.Change.{Change};
+ghost use Rattle.sessions.specs.Token.{token_of};
+ghost use Rattle.server_rules.specs.declared.config.ServerConfig.{ServerConfig};
+ghost use Rattle.server_rules.specs.State.{ServerState, new_server};
+ghost use Rattle.server_rules.specs.Step.{Happening, after};
+ghost use Rattle.server_laws.specs.Course.{Issuing, leave_of, said_after};
+ghost use Rattle.server_laws.specs.Facts.{IsWithin, RiseBetween, facts_said, ids_in, tokens_in};
+
+/// The ids that good CreateSubscription responses give rise, so none comes twice; and each lies among those of the
+/// boot number.
+pub fn subscription_ids_are_given_once()
+    ensures { (config : ServerConfig) (current : List Change) (happenings : List Happening)
+        → RiseBetween (config.boot * 65536) (config.boot * 65536 + 65535)
+        (ids_in (facts_said (said_after happenings (new_server config current)))) }
+{}
+
+/// The tokens that good CreateSession responses give are those of the boot number and of counters that rise, so none
+/// comes twice.
+pub fn session_tokens_are_given_once()
+    ensures { (config : ServerConfig) (current : List Change) (happenings : List Happening)
+        → (counters : List ℕ) × RiseBetween 0 (2 ^ 32 - 1) counters
+        × (tokens_in (facts_said (said_after happenings (new_server config current)))
+        ≡ map (token_of config.boot) counters) }
+{}
+
+/// An id of a subscription, and a token of a session, tell their life: two lives that gave one have one boot number.
+pub fn lives_share_no_ids()
+    ensures ids { (one other : ServerConfig) (current another : List Change) (happenings others : List Happening) (id : ℕ)
+        → IsWithin (id ∷ []) (ids_in (facts_said (said_after happenings (new_server one current))))
+        → IsWithin (id ∷ []) (ids_in (facts_said (said_after others (new_server other another))))
+        → one.boot ≡ other.boot }
+    ensures tokens { (one other : ServerConfig) (current another : List Change) (happenings others : List Happening)
+        (token : List ℕ) → one.boot < 2 ^ 16 → other.boot < 2 ^ 16
+        → IsWithin (token ∷ []) (tokens_in (facts_said (said_after happenings (new_server one current))))
+        → IsWithin (token ∷ []) (tokens_in (facts_said (said_after others (new_server other another))))
+        → one.boot ≡ other.boot }
+{
+    sessions::tokens_tell_apart();
+}
+
+/// The number of the secure channel that was issued last is 0 at first, and changes only where an OPN is taken: to the
+/// next one, which after 4294967295 is 1.
+pub fn channel_ids_rise()
+    ensures first { (config : ServerConfig) (current : List Change) → (new_server config current).channels_given ≡ 0 }
+    ensures next { (happening : Happening) (s : ServerState)
+        → let given = (after happening s).state.channels_given in
+        (given ≡ s.channels_given) ⊎ ((leave_of happening ≡ Issuing) × (given ≡ after_message s.channels_given)) }
+{}

@@ -1,0 +1,11 @@
+pub mod Places
+pub mod Acks
+pub mod Joining
+pub mod Keeping
+pub mod Queues
+pub mod Loops
+pub mod Takes
+pub mod Oldest
+pub mod Telling
+pub mod Leaps
+pub mod LastAge

@@ -1,0 +1,11 @@
+use Rattle.std.proofs.Common.{ℕ}
+use Rattle.server_rules.specs.Publishing.{sent_on}
+use Rattle.server_rules.specs.Moves.{queued}
+use Rattle.server_subs.specs.Continuing.{Continues}
+use Rattle.server_subs.proofs.data.ServerData.send_on.Given as goal
+
+abbrev pub invariant-loop-waiting : goal.invariant-loop-waiting
+invariant-loop-waiting l = Continues (sent_on l.id l.session l.self) (sent_on l.id l.session l.fn.self) l.to.items l.fn.to.items
+
+abbrev pub decreases-loop-waiting : goal.decreases-loop-waiting
+decreases-loop-waiting l = queued l.session l.self

@@ -1,0 +1,20 @@
+use Rattle.std.proofs.Common.{◌∙◌, ◌≡◌, Some, refl, sym, ap, true, false}
+use Rattle.subscription.specs.State.{SubState}
+use Rattle.subscription.specs.Calls.{moved}
+use Rattle.server_subs.proofs.Places.{apart_at, at_place, nowhere, on_ok}
+use Rattle.server_subs.proofs.subs.Subs.moved.Goals as goal
+
+pub returns-in-Some : goal.returns-in-Some
+returns-in-Some c =
+    let h = at_place _ _ _ _ _ _ c.place_of.ensures.place c.deref.ensures.value c.in-Some.is c.index_mut.ensures.value in
+    rw (← c.self.view_is, h.changes (moved) c.self.invariant, ← c.moved.ensures) refl
+
+pub returns-in-None : goal.returns-in-None
+returns-in-None c =
+    let h = nowhere _ _ _ _ c.place_of.ensures.place c.deref.ensures.value c.in-None.is in
+    rw (← c.self.view_is, h.changes (moved)) refl
+
+pub invariant_of-self : goal.invariant_of-self
+invariant_of-self c =
+    let h = at_place _ _ _ _ _ _ c.place_of.ensures.place c.deref.ensures.value c.in-Some.is c.index_mut.ensures.value in
+    apart_at _ _ _ _ _ h (ap (λ (s : SubState). s.spec.id) c.moved.ensures) c.self.invariant
