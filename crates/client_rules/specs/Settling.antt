@@ -63,7 +63,7 @@ unfoldable pub settled_within : ℕ → List Candidate → ClientState → Clien
 settled_within zero ready c = nothing c
 settled_within (suc most) ready c =
     if are_fewer (ready_of (round ready c).client) ready then
-      and_then (settled_within most (ready_of (round ready c).client)) (round ready c)
+    and_then (settled_within most (ready_of (round ready c).client)) (round ready c)
     else round ready c
 
 -- each time but the last one a link closes

@@ -77,7 +77,6 @@ ticked_up_to ms s within = by (nat_le (s.age + ms) (2 ^ 64 - 1)) refl
         ∙ ap (λ said. record { state = (ticked left s).state; said = said }) (append-nil (ticked left s).said)
         ∙ ap (λ k. ticked k s) (sym same)
 
-
 pub up_to_end : (ms end : ℕ) (s : ServerState) → s.age ≤ 2 ^ 64 - 1 → end ≡ min (s.age + ms) (2 ^ 64 - 1) → ticked ms s ≡ ticked (end - s.age) s
 up_to_end ms end s early is = ticked_up_to ms s early ∙ ap (λ k. ticked (k - s.age) s) (sym is)
 

@@ -125,7 +125,7 @@ due_leap end age s later early last before sound =
     ap (λ n. ticked n s) all ∙ quiet count (suc more) s quietly sound ∙ due_one more (record s { age = s.age + count }) within
     ∙ ap (λ (n : ℕ). and_then (ticked more) (moment (record s { age = n }))) now
     ∙ same_rest (ticked more) (λ after. ticked (end - after.age) after) (moment (record s { age = age }))
-      (ap (λ n. ticked (end - n) (moment (record s { age = age })).state) (sym at))
+    (ap (λ n. ticked (end - n) (moment (record s { age = age })).state) (sym at))
 
 -- nothing is
 quiet_leap : (end : ℕ) (s : ServerState) → s.age < end → end < next_due s → IsSound s.sessions

@@ -9,5 +9,5 @@ use Rattle.server_rules.specs.Answering.{fault_reply, refused_on, replied_within
 abbrev pub replied_too_large : Conn → ℕ → ℕ → ServerState → Did
 replied_too_large conn request handle s =
     if takes conn (fault_reply handle bad_response_too_large s) then
-      replied_within conn request (fault_reply handle bad_response_too_large s) s
+    replied_within conn request (fault_reply handle bad_response_too_large s) s
     else refused_on conn bad_tcp_message_too_large s

@@ -72,12 +72,7 @@ fn ids_owned(
 }
 
 /// Gives a subscription, of which nothing is kept, to a session, if that exists.
-fn own(
-    alloc: Global,
-    sessions: &mut Sessions,
-    id: u32,
-    session: u32,
-) -> Result<(), OutOfMemory>
+fn own(alloc: Global, sessions: &mut Sessions, id: u32, session: u32) -> Result<(), OutOfMemory>
     requires { keeps id sessions.old.owned ≡ false }
     ensures { OnOk result (sessions.new ≡ owned id session sessions.old) }
 {
@@ -285,12 +280,7 @@ impl ServerData {
 
     /// Makes a subscription of a session, whose first cycle is an interval from now, in the place of all that is known of
     /// its id.
-    pub fn add_sub(
-        &mut self,
-        alloc: Global,
-        session: u32,
-        spec: SubSpec,
-    ) -> Result<(), OutOfMemory>
+    pub fn add_sub(&mut self, alloc: Global, session: u32, spec: SubSpec) -> Result<(), OutOfMemory>
         ensures { OnOk result (self.new ≡ with_new_sub session spec self.old) }
     {
         let sub = Subscription::new(alloc, spec, self.age)?;

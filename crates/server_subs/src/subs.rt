@@ -89,11 +89,7 @@ fn set_mode_in(
 }
 
 /// Forms a subscription's next message.
-fn publish_next(
-    alloc: Global,
-    sub: &mut Subscription,
-    now: i64,
-) -> Result<Outgoing, OutOfMemory>
+fn publish_next(alloc: Global, sub: &mut Subscription, now: i64) -> Result<Outgoing, OutOfMemory>
     ensures out { IfOk result (λ out. out ≡ outgoing_of now sub.old) }
     ensures published { OnOk result (sub.new ≡ published now sub.old) }
     ensures id { sub.new.spec.id ≡ sub.old.spec.id }

@@ -13,11 +13,13 @@ loop-self-init c =
     let end = c.saturating_add-end.ensures in
     let added = c.from.ensures in
     let is : ticked c.args.ms c.args.self.now ≡ ticked (c.saturating_add-end.result - c.args.self.now.age) c.args.self.now =
-    up_to_end c.args.ms c.saturating_add-end.result c.args.self.now (omega arith) (omega arith) in
-    (omega arith, record {
-      state = sym (ap (λ (d : Did). d.state) is);
-      said = sym (ap (λ (d : Did). c.args.to.now.items ++ orders_of d.said) is);
-    })
+    up_to_end c.args.ms c.saturating_add-end.result c.args.self.now (omega arith) (omega arith) in (
+      omega arith,
+      record {
+        state = sym (ap (λ (d : Did). d.state) is);
+        said = sym (ap (λ (d : Did). c.args.to.now.items ++ orders_of d.said) is);
+      },
+    )
 
 pub loop-self-preserved : goal.loop-self-preserved
 loop-self-preserved c =
