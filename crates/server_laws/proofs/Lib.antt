@@ -25,3 +25,6 @@ mod Kept
 mod Serving
 mod Quieting
 mod Keeping
+mod Whole
+mod Chaining
+mod Putting

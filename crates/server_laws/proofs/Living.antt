@@ -1,16 +1,17 @@
 -- A life, in moves.
-use Rattle.std.proofs.Common.{◌≡◌, ℕ, List, [], ◌∷◌, ◌++◌, map, refl, sym, ap, ◌∙◌, subst, append_assoc}
+use Rattle.std.proofs.Common.{◌≡◌, ℕ, List, [], ◌∷◌, ◌++◌, map, refl, sym, ap, ◌∙◌, subst, append_assoc, inl, inr}
 use Rattle.std.specs.Prelude.{reverse}
 use Rattle.std.proofs.lemmas.List.{append-nil, reverse-append, reverse-reverse}
+use Rattle.ua_base.specs.declared.modes.Mode.{Mode}
 use Rattle.set_model.specs.declared.source.Change.{Change}
 use Rattle.server_rules.specs.declared.config.ServerConfig.{ServerConfig}
 use Rattle.server_rules.specs.State.{ServerState, new_server}
 use Rattle.server_rules.specs.Said.{Said}
 use Rattle.server_rules.specs.Step.{Happening, Opens, Hears, Closes, Feeds, Ticks, Levels, after, fed}
 use Rattle.server_rules.specs.Acts.{Put, ServerAct, acts, first_act, history, state_after}
-use Rattle.server_laws.specs.Moves.{AreFair, Core, Enters, Move, facts_of_all, feeds_in, moved_all}
+use Rattle.server_laws.specs.Moves.{Acknowledges, Adds, Answers, AreFair, Asks, Core, Cycles, Does, Doing, Enables, Ends, Enters, Goes, Issues, Makes, Modes, Modifies, Move, Removes, Repeats, Sends, facts_of_all, feeds_in, moved_all}
 use Rattle.server_laws.specs.Facts.{IsWithin, facts_said}
-use Rattle.server_laws.specs.Course.{IsCourse, core_of, fed_in, fed_with_one, leave_of, said_after, said_by, said_in}
+use Rattle.server_laws.specs.Course.{AreAsked, Feeding, IsAsked, IsAskedDoing, IsAskedMove, IsCourse, Issuing, Leave, MayDo, MayMove, MayMoves, MaySet, Nothing, Reading, Repeating, Setting, core_of, fed_in, fed_with_one, leave_of, said_after, said_by, said_in}
 use Rattle.server_laws.specs.Lives.{Stands, Unborn, life_after}
 use Rattle.server_laws.proofs.Coming.{facts_join, fair_join, moved_join, said_join}
 use Rattle.server_laws.proofs.Feeding.{FeedsNone, feeds_join, feeds_none, heard_none}
@@ -30,15 +31,86 @@ record IsStep (happening : Happening) (s : ServerState) : Type 0 where
   leads : core_of (after happening s).state ≡ moved_all moves (core_of s)
   told : IsWithin (facts_said (after happening s).said) (facts_of_all moves (core_of s))
   feeds : feeds_in moves ≡ fed_with_one [] happening
+  asked : (earlier : List Happening) → AreAsked (happening ∷ earlier) moves
+
+-- ---- modes that are asked for
+
+set_asked : (happening : Happening) (earlier : List Happening) (leave : Leave) (id : ℕ) (mode : Mode) → leave_of happening ≡ leave → MaySet leave id mode
+    → IsAsked (happening ∷ earlier) id mode
+set_asked happening earlier (Setting other that) id mode is may = inl (is ∙ ap (λ n. Setting n that) may.0 ∙ ap (Setting id) may.1)
+set_asked happening earlier Nothing id mode is may = absurd may
+set_asked happening earlier Reading id mode is may = absurd may
+set_asked happening earlier (Repeating other number) id mode is may = absurd may
+set_asked happening earlier Issuing id mode is may = absurd may
+set_asked happening earlier (Feeding change) id mode is may = absurd may
+
+doing_asked : (happening : Happening) (earlier : List Happening) (leave : Leave) (id : ℕ) (doing : Doing) → leave_of happening ≡ leave → MayDo leave id doing
+    → IsAskedDoing (happening ∷ earlier) id doing
+doing_asked happening earlier leave id (Modes item mode) is may = set_asked happening earlier leave id mode is may
+doing_asked happening earlier leave id (Adds spec) is may = tt
+doing_asked happening earlier leave id (Removes item) is may = tt
+doing_asked happening earlier leave id (Cycles queued) is may = tt
+doing_asked happening earlier leave id (Sends now) is may = tt
+doing_asked happening earlier leave id (Acknowledges number) is may = tt
+doing_asked happening earlier leave id (Modifies spec now) is may = tt
+doing_asked happening earlier leave id (Enables enabled) is may = tt
+doing_asked happening earlier leave id Goes is may = tt
+
+move_asked : (happening : Happening) (earlier : List Happening) (leave : Leave) (move : Move) → leave_of happening ≡ leave → MayMove leave move
+    → IsAskedMove (happening ∷ earlier) move
+move_asked happening earlier leave (Does id doing) is may = doing_asked happening earlier leave id doing is may
+move_asked happening earlier leave (Makes spec start) is may = tt
+move_asked happening earlier leave (Enters change) is may = tt
+move_asked happening earlier leave (Ends id) is may = tt
+move_asked happening earlier leave (Asks call) is may = tt
+move_asked happening earlier leave Issues is may = tt
+move_asked happening earlier leave (Repeats id number) is may = tt
+move_asked happening earlier leave (Answers answer) is may = tt
+
+may_asked : (happening : Happening) (earlier : List Happening) (leave : Leave) (moves : List Move) → leave_of happening ≡ leave → MayMoves leave moves
+    → AreAsked (happening ∷ earlier) moves
+may_asked happening earlier leave [] is may = tt
+may_asked happening earlier leave (move ∷ moves) is may = (move_asked happening earlier leave move is may.0, may_asked happening earlier leave moves is may.1)
+
+later_doing : (happening : Happening) (earlier : List Happening) (id : ℕ) (doing : Doing) → IsAskedDoing earlier id doing → IsAskedDoing (happening ∷ earlier) id doing
+later_doing happening earlier id (Modes item mode) h = inr h
+later_doing happening earlier id (Adds spec) h = tt
+later_doing happening earlier id (Removes item) h = tt
+later_doing happening earlier id (Cycles queued) h = tt
+later_doing happening earlier id (Sends now) h = tt
+later_doing happening earlier id (Acknowledges number) h = tt
+later_doing happening earlier id (Modifies spec now) h = tt
+later_doing happening earlier id (Enables enabled) h = tt
+later_doing happening earlier id Goes h = tt
+
+later_move : (happening : Happening) (earlier : List Happening) (move : Move) → IsAskedMove earlier move → IsAskedMove (happening ∷ earlier) move
+later_move happening earlier (Does id doing) h = later_doing happening earlier id doing h
+later_move happening earlier (Makes spec start) h = tt
+later_move happening earlier (Enters change) h = tt
+later_move happening earlier (Ends id) h = tt
+later_move happening earlier (Asks call) h = tt
+later_move happening earlier Issues h = tt
+later_move happening earlier (Repeats id number) h = tt
+later_move happening earlier (Answers answer) h = tt
+
+asked_later : (happening : Happening) (earlier : List Happening) (moves : List Move) → AreAsked earlier moves → AreAsked (happening ∷ earlier) moves
+asked_later happening earlier [] h = tt
+asked_later happening earlier (move ∷ moves) h = (later_move happening earlier move h.0, asked_later happening earlier moves h.1)
+
+asked_join : (happenings : List Happening) (one other : List Move) → AreAsked happenings one → AreAsked happenings other → AreAsked happenings (one ++ other)
+asked_join happenings [] other h rest = rest
+asked_join happenings (move ∷ one) other h rest = (h.0, asked_join happenings one other h.1 rest)
+
+-- ---- steps
 
 unfed : (happening : Happening) (s : ServerState) → FeedsNone (leave_of happening) → fed_with_one [] happening ≡ [] → IsStep happening s
 unfed happening s none is =
     let h = after_comes happening s in
-    record { moves = h.moves; fair = h.fair; leads = h.leads; told = h.told; feeds = feeds_none (leave_of happening) none h.moves h.may ∙ sym is }
+    record { moves = h.moves; fair = h.fair; leads = h.leads; told = h.told; feeds = feeds_none (leave_of happening) none h.moves h.may ∙ sym is; asked = λ earlier. may_asked happening earlier (leave_of happening) h.moves refl h.may }
 
 fed_step : (change : Change) (s : ServerState) → IsStep (Feeds change) s
 unfolding fed
-fed_step change s = record { moves = Enters change ∷ []; fair = (tt, tt); leads = refl; told = refl; feeds = refl }
+fed_step change s = record { moves = Enters change ∷ []; fair = (tt, tt); leads = refl; told = refl; feeds = refl; asked = λ earlier. (tt, tt) }
 
 step : (happening : Happening) (s : ServerState) → IsStep happening s
 step (Opens number) s = unfed (Opens number) s (λ change h. h) refl
@@ -92,11 +164,12 @@ more happening earlier s one other =
       told = both.told;
       feeds = feeds_join one.moves other.moves ∙ ap (λ l. l ++ feeds_in other.moves) one.feeds ∙ ap (λ l. fed_in earlier ++ l) other.feeds
           ∙ sym (fed_more (fed_in earlier) happening);
+      asked = asked_join (happening ∷ earlier) one.moves other.moves (asked_later happening earlier one.moves one.asked) (other.asked earlier);
     }
 
 none_yet : (s : ServerState) → IsCourse [] s
 unfolding state_after
-none_yet s = record { moves = []; fair = tt; leads = refl; told = refl; feeds = refl }
+none_yet s = record { moves = []; fair = tt; leads = refl; told = refl; feeds = refl; asked = tt }
 
 pub course : (happenings : List Happening) (s : ServerState) → IsCourse happenings s
 course [] s = none_yet s

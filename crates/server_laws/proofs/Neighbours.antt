@@ -37,7 +37,7 @@ abbrev pub known_all : List Move → List Change → List Change
 known_all [] known = known
 known_all (move ∷ moves) known = known_all moves (known_by move known)
 
-known_more : (moves : List Move) (known : List Change) → known_all moves known ≡ known ++ feeds_in moves
+pub known_more : (moves : List Move) (known : List Change) → known_all moves known ≡ known ++ feeds_in moves
 known_more [] known = sym (append-nil known)
 known_more (Makes spec start ∷ moves) known = known_more moves known
 known_more (Does id doing ∷ moves) known = known_more moves known

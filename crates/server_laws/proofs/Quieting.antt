@@ -1,5 +1,5 @@
 -- A connection on which no Publish came is told nothing but the answers to its own requests.
-use Rattle.std.proofs.Common.{◌≡◌, ℕ, ◌==◌, List, [], ◌∷◌, Bool, true, false, cond, not, length, nat_lt, Option, Some, None, refl, sym, ap, ◌∙◌, subst, arith, inr}
+use Rattle.std.proofs.Common.{◌≡◌, ℕ, ◌==◌, List, [], ◌∷◌, Bool, true, false, cond, not, length, nat_lt, map, Option, Some, None, refl, sym, ap, ◌∙◌, subst, arith, inr}
 use Rattle.std.specs.Prelude.{Result, Ok, Err}
 use Rattle.std.specs.List.{find}
 use Rattle.std.proofs.lemmas.Bool.Decides.{nat_tests}
@@ -46,18 +46,18 @@ use Rattle.server_rules.specs.declared.opening.OpeningRequest.{OpeningRequest}
 use Rattle.server_rules.specs.declared.opening.SecurityTokenRequestType.{SecurityTokenRequestType}
 use Rattle.server_rules.specs.declared.opening.SecurityTokenRequestType.TheVariants as request_type
 use Rattle.server_rules.specs.declared.waiting.Waiting.{Waiting}
-use Rattle.server_rules.specs.State.{ServerState, conn_at, with_sub}
+use Rattle.server_rules.specs.State.{ServerState, conn_at, with_sub, is_conn}
 use Rattle.server_rules.specs.Said.{Did, nothing}
-use Rattle.server_rules.specs.Answering.{fault_reply, faulted, refused_on, replied, takes}
+use Rattle.server_rules.specs.Answering.{deafened, fault_reply, faulted, refused_on, replied, takes}
 use Rattle.server_rules.specs.Moves.{has_notice, has_subs, oldest_waiting, owns, unqueued, waiting_of, waiting_on}
 use Rattle.server_rules.specs.Publishing.{ack_results, acked, all_acked, driven_out, enqueued, first_of, late_sub, parked_of, publish, queued_on, sent, sent_on, taken, taken_by, turned, used, waiting_with}
 use Rattle.server_rules.specs.Opening.{asked_at, granted, granted_on, is_unsecured, issued, opened_as, opened_by, opened_for, opening, opening_reply, opening_response, security_mode_of, token_renewed, with_channel, with_next_channel}
 use Rattle.server_rules.specs.Requests.{asked, asker_of, done_for, noted, requested, served, sub_served, token_in}
-use Rattle.server_rules.specs.Connecting.{acknowledged as welcomed, closed, closed_by, closing, greeted_by, greeting, hears, hears_by, hears_on, is_above, is_small, opened, with_new_conn, without_conn}
+use Rattle.server_rules.specs.Connecting.{acknowledged as welcomed, greeted, closed, closed_by, closing, greeted_by, greeting, hears, hears_by, hears_on, is_above, is_small, opened, with_new_conn, without_conn}
 use Rattle.server_rules.specs.Step.{Happening, Opens, Hears, Closes, Feeds, Ticks, Levels, after, ear_of, ears, fed, heard, leveled}
-use Rattle.server_laws.specs.Lockstep.{AllWait, IsAtOnceOf, IsFault, IsReplied, MayHear, SaysOn, WaitsOn}
-use Rattle.server_laws.proofs.Serving.{Row, fault_row, served_row}
-use Rattle.server_laws.proofs.Silent.{Tells, either_tells, from_tells, idle_tells, refused_spoken, replied_spoken, says_join, sent_on_tells, sent_tells, spoken_tells, then_tells, ticked_tells, told_tells, found_conn, unqueued_waits}
+use Rattle.server_laws.specs.Lockstep.{AllWait, IsAtOnceOf, IsFault, IsReplied, MayHear, SaysOn, WaitsOn, IsGoodFor, IsTold}
+use Rattle.server_laws.proofs.Serving.{Row, fault_row, served_row, KeptRow}
+use Rattle.server_laws.proofs.Silent.{Tells, either_tells, from_tells, idle_tells, refused_spoken, replied_spoken, says_join, sent_on_tells, sent_tells, spoken_tells, then_tells, ticked_tells, told_tells, found_conn, unqueued_waits, numbers_of, with_numbers}
 use Rattle.server_laws.proofs.Waiting.{map_waits, oldest_waits, requested_waits, unbound_waits, first_waits}
 
 -- ---- a Publish of a session that is bound to such a connection
@@ -124,6 +124,17 @@ all_acked_same : (session : ℕ) (acks : List SubscriptionAcknowledgement) (s : 
 all_acked_same session [] s = refl
 all_acked_same session (ack ∷ acks) s = all_acked_same session acks (acked session ack s) ∙ acked_same session ack s
 
+acked_conns : (session : ℕ) (ack : SubscriptionAcknowledgement) (s : ServerState) → (acked session ack s).conns ≡ s.conns
+acked_conns session ack s = by_owner (owns session ack.subscription_id s)
+  where
+    by_owner : (b : Bool) → (cond b (with_sub ack.subscription_id (acknowledged ack.sequence_number) s) s).conns ≡ s.conns
+    by_owner true = refl
+    by_owner false = refl
+
+all_acked_conns : (session : ℕ) (acks : List SubscriptionAcknowledgement) (s : ServerState) → (all_acked session acks s).conns ≡ s.conns
+all_acked_conns session [] s = refl
+all_acked_conns session (ack ∷ acks) s = all_acked_conns session acks (acked session ack s) ∙ acked_conns session ack s
+
 fault_tells : (P : ℕ → Type 0) (asker : Asker) (code : ℕ) (s : ServerState) → P asker.conn → Tells P s (faulted asker code s)
 fault_tells P asker code s p = spoken_tells P s _ (replied_spoken P asker (fault_reply asker.handle code s) s p)
 
@@ -140,7 +151,7 @@ queued_on_tells : (P : ℕ → Type 0) (conn : Option ℕ) (waiting : Waiting) (
     → BoundOn P session s.sessions.sessions → Tells P s (queued_on conn waiting session s)
 queued_on_tells P None waiting session s is bound = idle_tells P s
 queued_on_tells P (Some conn) waiting session s is bound =
-    from_tells P s (record s { sessions = parked session (parked_of waiting) s.sessions }) _
+    from_tells P s (record s { sessions = parked session (parked_of waiting) s.sessions }) _ refl
     (λ h. parked_waits P session (parked_of waiting) s.sessions.sessions bound h)
     (driven_out_tells P conn (driven_out_of (session_at session s.sessions.sessions)) _ _ refl (bound conn is))
 
@@ -161,15 +172,20 @@ turned_waits P (Some oldest) waiting session s bound h =
     (λ conn is. bound conn (sym (bound_same session (is_numbered session) one.without_oldest s.sessions.sessions (λ x. refl) (λ x. refl)) ∙ is))
     (unqueued_waits P session s h)
 
+turned_numbers : (oldest : Option Waiting) (waiting : Waiting) (session : ℕ) (s : ServerState) → numbers_of (turned oldest waiting session s) ≡ numbers_of s
+turned_numbers None waiting session s = refl
+turned_numbers (Some oldest) waiting session s = refl
+
 used_tells : (P : ℕ → Type 0) (waiting : Waiting) (id session : ℕ) (s : ServerState) → P waiting.asker.conn → BoundOn P session s.sessions.sessions
     → Tells P s (used waiting id session s)
 unfolding used
 used_tells P waiting id session s p bound = λ h.
     let first : Waiting = first_of (oldest_waiting session s) waiting in
     let queue : ServerState = turned (oldest_waiting session s) waiting session s in
-    then_tells P queue (sent_on id session) (sent first id queue)
+    let one = then_tells P queue (sent_on id session) (sent first id queue)
     (sent_tells P first id queue (first_conn P session s (oldest_waiting session s) waiting refl h p))
-    (sent_on_tells P id session (sent first id queue).state) (turned_waits P (oldest_waiting session s) waiting session s bound h)
+    (sent_on_tells P id session (sent first id queue).state) (turned_waits P (oldest_waiting session s) waiting session s bound h) in
+    record { told = one.told; numbers = one.numbers ∙ turned_numbers (oldest_waiting session s) waiting session s }
 
 taken_by_tells : (P : ℕ → Type 0) (sub : Option SubState) (waiting : Waiting) (session : ℕ) (s : ServerState) → P waiting.asker.conn → BoundOn P session s.sessions.sessions
     → Tells P s (taken_by sub waiting session s)
@@ -189,7 +205,7 @@ publish_tells : (P : ℕ → Type 0) (asker : Asker) (session : ℕ) (r : Publis
 unfolding publish
 publish_tells P asker session r s p bound =
     either_tells P (nat_lt 1000 (length r.subscription_acknowledgements)) s _ _ (fault_tells P asker bad_too_many_operations s p)
-    (from_tells P s (all_acked session r.subscription_acknowledgements s) _
+    (from_tells P s (all_acked session r.subscription_acknowledgements s) _ (ap (map (λ (conn : Conn). conn.number)) (all_acked_conns session r.subscription_acknowledgements s))
     (λ h. subst (λ sessions. AllWait P sessions.sessions) (sym (all_acked_same session r.subscription_acknowledgements s)) h)
     (taken_tells P (waiting_with asker (ack_results session r.subscription_acknowledgements s)) session (all_acked session r.subscription_acknowledgements s) p
     (subst (λ sessions. BoundOn P session sessions.sessions) (sym (all_acked_same session r.subscription_acknowledgements s)) bound)))
@@ -274,10 +290,14 @@ checked_bound P asker token session s p is conn found =
 -- an answer to one who asks on such a connection
 answered_tells : (P : ℕ → Type 0) (asker : Asker) (Good : Reply → Type 0) (s : ServerState) (did : Did) → P asker.conn → Row P asker Good s did → Tells P s did
 answered_tells P asker Good s did p row h =
-    let one = row h in
+    let kept = row h in
+    let one = kept.answered in
     record {
-      on = subst (SaysOn P) (sym one.said) (says_join P one.front (replied asker one.answer one.from).said one.on (replied_spoken P asker one.answer one.from p).on);
-      waits = one.waits;
+      told = record {
+        on = subst (SaysOn P) (sym one.said) (says_join P one.front (replied asker one.answer one.from).said one.on (replied_spoken P asker one.answer one.from p).on);
+        waits = one.waits;
+      };
+      numbers = kept.numbers;
     }
 
 publish_for : (P : ℕ → Type 0) (asker : Asker) (r : PublishRequest) (token : Option (List ℕ)) (answer : Result ℕ ℕ) (s : ServerState) → P asker.conn
@@ -292,7 +312,7 @@ publish_served : (P : ℕ → Type 0) (asker : Asker) (r : PublishRequest) (s : 
 unfolding served
 publish_served P asker r s p =
     let token : Option (List ℕ) = token_in (sub_header (sub_request.Publish r)) in
-    from_tells P s (noted asker token s) _
+    from_tells P s (noted asker token s) _ refl
     (λ h. first_waits P (has_token s.sessions.boot token) (one.requested asker.conn s.age) s.sessions.sessions (requested_waits P asker.conn s.age) h)
     (publish_for P asker r token (check_answer token asker.conn s.sessions) s p refl)
 
@@ -329,7 +349,7 @@ refused_tells P conn code s p = spoken_tells P s _ (refused_spoken P conn code s
 granted_on_tells : (P : ℕ → Type 0) (conn : Conn) (number : ℕ) (response : OpenSecureChannelResponse) (s : ServerState) → P conn.number
     → Tells P s (granted_on conn number response s)
 unfolding granted_on
-granted_on_tells P conn number response s p h = record { on = (p, (p, tt)); waits = h }
+granted_on_tells P conn number response s p h = record { told = record { on = (p, (p, tt)); waits = h }; numbers = with_numbers conn s }
 
 granted_tells : (P : ℕ → Type 0) (channel token : ℕ) (conn : Conn) (number : ℕ) (a : OpeningRequest) (s : ServerState) → P conn.number
     → Tells P s (granted channel token conn number a s)
@@ -342,7 +362,7 @@ granted_tells P channel token conn number a s p =
 issued_tells : (P : ℕ → Type 0) (conn : Conn) (number : ℕ) (a : OpeningRequest) (s : ServerState) → P conn.number → Tells P s (issued conn number a s)
 unfolding issued
 issued_tells P conn number a s p =
-    from_tells P s (with_next_channel s) _ (λ h. h) (granted_tells P (after_message s.channels_given) 1 conn number a (with_next_channel s) p)
+    from_tells P s (with_next_channel s) _ refl (λ h. h) (granted_tells P (after_message s.channels_given) 1 conn number a (with_next_channel s) p)
 
 renewed_tells : (P : ℕ → Type 0) (conn : Conn) (number : ℕ) (a : OpeningRequest) (s : ServerState) → P conn.number → Tells P s (token_renewed conn number a s)
 unfolding token_renewed
@@ -375,7 +395,7 @@ opening_tells P channel follows number body conn s p = opened_by_tells P (asked_
 
 welcomed_tells : (P : ℕ → Type 0) (hello : Greeting) (conn : Conn) (s : ServerState) → P conn.number → Tells P s (welcomed hello conn s)
 unfolding welcomed
-welcomed_tells P hello conn s p h = record { on = (p, (p, tt)); waits = h }
+welcomed_tells P hello conn s p h = record { told = record { on = (p, (p, tt)); waits = h }; numbers = with_numbers (greeted hello conn) s }
 
 greeted_tells : (P : ℕ → Type 0) (read : Result (Greeting × Option (List ℕ)) Fault) (conn : Conn) (s : ServerState) → P conn.number → Tells P s (greeted_by read conn s)
 greeted_tells P (Ok hello) conn s p =
@@ -388,7 +408,7 @@ greeting_tells P body conn s p = greeted_tells P (value_of (whole_at hello_at (i
 
 closing_tells : (P : ℕ → Type 0) (conn : Conn) (s : ServerState) → Tells P s (closing conn s)
 unfolding closing
-closing_tells P conn s h = record { on = tt; waits = h }
+closing_tells P conn s h = record { told = record { on = tt; waits = h }; numbers = with_numbers (deafened conn) s }
 
 hears_on_tells : (P : ℕ → Type 0) (h : Heard) (conn : Conn) (s : ServerState) → P conn.number → Tells P s (hears_on h conn s)
 hears_on_tells P (heard_as.Greeting body) conn s p = greeting_tells P body conn s p
@@ -407,36 +427,41 @@ unfolding heard hears
 heard_tells P number h s p =
     either_tells P (is_deaf (ears number s)) s _ _ (idle_tells P s) (hears_by_tells P number (conn_at number s.conns) h s refl p)
 
-opened_tells : (P : ℕ → Type 0) (number : ℕ) (s : ServerState) → Tells P s (opened number s)
+-- connections come and go
+begun_told : (P : ℕ → Type 0) (b : Bool) (number : ℕ) (s : ServerState) → AllWait P s.sessions.sessions
+    → IsTold P (cond b (nothing (with_new_conn number s)) (nothing s))
+begun_told P true number s h = record { on = tt; waits = h }
+begun_told P false number s h = record { on = tt; waits = h }
+
+opened_told : (P : ℕ → Type 0) (number : ℕ) (s : ServerState) → AllWait P s.sessions.sessions → IsTold P (opened number s)
 unfolding opened
-opened_tells P number s =
-    either_tells P (is_above s.highest number) s _ _ (from_tells P s (with_new_conn number s) _ (λ h. h) (idle_tells P (with_new_conn number s))) (idle_tells P s)
+opened_told P number s h = begun_told P (is_above s.highest number) number s h
 
-closed_by_tells : (P : ℕ → Type 0) (conn : Option Conn) (number : ℕ) (s : ServerState) → Tells P s (closed_by conn number s)
-closed_by_tells P None number s = idle_tells P s
-closed_by_tells P (Some conn) number s =
-    from_tells P s (without_conn number s) _ (λ h. map_waits P (one.unbound_from number) s.sessions.sessions (unbound_waits P number) h)
-    (idle_tells P (without_conn number s))
+closed_by_told : (P : ℕ → Type 0) (conn : Option Conn) (number : ℕ) (s : ServerState) → AllWait P s.sessions.sessions → IsTold P (closed_by conn number s)
+closed_by_told P None number s h = record { on = tt; waits = h }
+closed_by_told P (Some conn) number s h =
+    record { on = tt; waits = map_waits P (one.unbound_from number) s.sessions.sessions (unbound_waits P number) h }
 
-closed_tells : (P : ℕ → Type 0) (number : ℕ) (s : ServerState) → Tells P s (closed number s)
+closed_told : (P : ℕ → Type 0) (number : ℕ) (s : ServerState) → AllWait P s.sessions.sessions → IsTold P (closed number s)
 unfolding closed
-closed_tells P number s = closed_by_tells P (conn_at number s.conns) number s
+closed_told P number s h = closed_by_told P (conn_at number s.conns) number s h
 
 fed_tells : (P : ℕ → Type 0) (change : Change) (s : ServerState) → Tells P s (fed change s)
 unfolding fed
-fed_tells P change s h = record { on = tt; waits = h }
+fed_tells P change s h = record { told = record { on = tt; waits = h }; numbers = refl }
 
 leveled_tells : (P : ℕ → Type 0) (level : ℕ) (s : ServerState) → Tells P s (leveled level s)
 unfolding leveled
-leveled_tells P level s h = record { on = tt; waits = h }
+leveled_tells P level s h = record { told = record { on = tt; waits = h }; numbers = refl }
 
-pub after_tells : (P : ℕ → Type 0) (happening : Happening) (s : ServerState) → MayHear P happening → Tells P s (after happening s)
-after_tells P (Opens number) s may = opened_tells P number s
-after_tells P (Hears number h) s may = heard_tells P number h s may
-after_tells P (Closes number) s may = closed_tells P number s
-after_tells P (Feeds change) s may = fed_tells P change s
-after_tells P (Ticks ms) s may = ticked_tells P ms s
-after_tells P (Levels level) s may = leveled_tells P level s
+pub after_tells : (P : ℕ → Type 0) (happening : Happening) (s : ServerState) → MayHear P happening → AllWait P s.sessions.sessions
+    → IsTold P (after happening s)
+after_tells P (Opens number) s may h = opened_told P number s h
+after_tells P (Hears number heard_now) s may h = (heard_tells P number heard_now s may h).told
+after_tells P (Closes number) s may h = closed_told P number s h
+after_tells P (Feeds change) s may h = (fed_tells P change s h).told
+after_tells P (Ticks ms) s may h = (ticked_tells P ms s h).told
+after_tells P (Levels level) s may h = (leveled_tells P level s h).told
 
 -- ---- a request on a connection on which no Publish waits
 
@@ -456,28 +481,56 @@ never_behind : (bytes : List ℕ) (header : Result RequestHeader BodyFault) → 
 never_behind bytes (Ok header) is = never_of header.request_handle bytes (body_type_at bytes) is
 never_behind bytes (Err fault) is = absurd cc
 
-asked_row : (P : ℕ → Type 0) (conn number : ℕ) (r : Result Request RequestFault) (s : ServerState) → (r ≡ Err faults.OutOfMemory → ⊥) → IsAtOnceOf r
-    → AllWait P s.sessions.sessions → IsReplied P conn number r s (asked conn number r s)
-asked_row P conn number (Ok r) s never at_once h =
-    record { handle = (header_of r).request_handle; answered = served_row P (asker_of conn number (header_of r).request_handle) r s at_once h }
-asked_row P conn number (Err faults.Header) s never at_once h =
-    record { handle = 0; answered = fault_row P (asker_of conn number 0) IsFault bad_decoding_error s (λ handle code t. refl) h }
-asked_row P conn number (Err (faults.Service handle)) s never at_once h =
-    record { handle = handle; answered = fault_row P (asker_of conn number handle) IsFault bad_service_unsupported s (λ handle code t. refl) h }
-asked_row P conn number (Err (faults.Body handle)) s never at_once h =
-    record { handle = handle; answered = fault_row P (asker_of conn number handle) IsFault bad_decoding_error s (λ handle code t. refl) h }
-asked_row P conn number (Err faults.OutOfMemory) s never at_once h = absurd (never refl)
+-- the same connections are there
+there_by : (b : Bool) (number : ℕ) (x y c : Conn) (rest others : Option Conn) → (y.number == number) ≡ b → x.number ≡ y.number
+    → (others ≡ Some c → (d : Conn) × (rest ≡ Some d)) → cond b (Some y) others ≡ Some c → (d : Conn) × (cond (is_conn number x) (Some x) rest ≡ Some d)
+there_by true number x y c rest others test same on is =
+    let own : (x.number == number) ≡ true = ap (λ n. n == number) same ∙ test in
+    (x, ap (λ b. cond b (Some x) rest) own)
+there_by false number x y c rest others test same on is =
+    let own : (x.number == number) ≡ false = ap (λ n. n == number) same ∙ test in
+    let more = on is in
+    (more.0, ap (λ b. cond b (Some x) rest) own ∙ more.1)
 
-requested_row : (P : ℕ → Type 0) (conn number : ℕ) (body : List ℕ) (s : ServerState) → IsAtOnceOf (request_at body) → AllWait P s.sessions.sessions
-    → IsReplied P conn number (request_at body) s (requested conn number body s)
+there : (number : ℕ) (conns others : List Conn) (c : Conn) → map (λ (conn : Conn). conn.number) conns ≡ map (λ (conn : Conn). conn.number) others
+    → conn_at number others ≡ Some c → (d : Conn) × (conn_at number conns ≡ Some d)
+there number conns [] c same is = absurd cc
+there number [] (y ∷ others) c same is = absurd cc
+there number (x ∷ conns) (y ∷ others) c same is =
+    let head : x.number ≡ y.number = cc in
+    let tail : map (λ (conn : Conn). conn.number) conns ≡ map (λ (conn : Conn). conn.number) others = cc in
+    there_by (is_conn number y) number x y c (conn_at number conns) (conn_at number others) refl head (there number conns others c tail) is
+
+row_replied : (P : ℕ → Type 0) (conn number handle : ℕ) (r : Result Request RequestFault) (s : ServerState) (did : Did) (c : Conn) → conn_at conn s.conns ≡ Some c
+    → KeptRow P (asker_of conn number handle) (IsGoodFor r s.subs) s did → IsReplied P conn number r s did
+row_replied P conn number handle r s did c is kept =
+    record { handle = handle; answered = kept.answered; there = there conn kept.answered.from.conns s.conns c kept.from_numbers is }
+
+asked_row : (P : ℕ → Type 0) (conn number : ℕ) (r : Result Request RequestFault) (s : ServerState) (c : Conn) → conn_at conn s.conns ≡ Some c
+    → (r ≡ Err faults.OutOfMemory → ⊥) → IsAtOnceOf r → AllWait P s.sessions.sessions → IsReplied P conn number r s (asked conn number r s)
+asked_row P conn number (Ok r) s c is never at_once h =
+    row_replied P conn number (header_of r).request_handle (Ok r) s (asked conn number (Ok r) s) c is (served_row P (asker_of conn number (header_of r).request_handle) r s at_once h)
+asked_row P conn number (Err faults.Header) s c is never at_once h =
+    row_replied P conn number 0 (Err faults.Header) s (asked conn number (Err faults.Header) s) c is
+    (fault_row P (asker_of conn number 0) IsFault bad_decoding_error s (λ handle code t. refl) h)
+asked_row P conn number (Err (faults.Service handle)) s c is never at_once h =
+    row_replied P conn number handle (Err (faults.Service handle)) s (asked conn number (Err (faults.Service handle)) s) c is
+    (fault_row P (asker_of conn number handle) IsFault bad_service_unsupported s (λ handle code t. refl) h)
+asked_row P conn number (Err (faults.Body handle)) s c is never at_once h =
+    row_replied P conn number handle (Err (faults.Body handle)) s (asked conn number (Err (faults.Body handle)) s) c is
+    (fault_row P (asker_of conn number handle) IsFault bad_decoding_error s (λ handle code t. refl) h)
+asked_row P conn number (Err faults.OutOfMemory) s c is never at_once h = absurd (never refl)
+
+requested_row : (P : ℕ → Type 0) (conn number : ℕ) (body : List ℕ) (s : ServerState) (c : Conn) → conn_at conn s.conns ≡ Some c → IsAtOnceOf (request_at body)
+    → AllWait P s.sessions.sessions → IsReplied P conn number (request_at body) s (requested conn number body s)
 unfolding requested
-requested_row P conn number body s at_once h = asked_row P conn number (request_at body) s (never_behind body (header_at body)) at_once h
+requested_row P conn number body s c is at_once h = asked_row P conn number (request_at body) s c is (never_behind body (header_at body)) at_once h
 
 message_row : (P : ℕ → Type 0) (conn number : ℕ) (body : List ℕ) (s : ServerState) (found : Option Conn) → conn_at conn s.conns ≡ found → is_deaf (ear_of found) ≡ false
     → IsAtOnceOf (request_at body) → AllWait P s.sessions.sessions → IsReplied P conn number (request_at body) s (hears_by found (heard_as.Message number body) s)
 message_row P conn number body s None is hears at_once h = absurd cc
 message_row P conn number body s (Some c) is hears at_once h =
-    subst (λ n. IsReplied P conn number (request_at body) s (requested n number body s)) (sym (found_conn conn s.conns c is)) (requested_row P conn number body s at_once h)
+    subst (λ n. IsReplied P conn number (request_at body) s (requested n number body s)) (sym (found_conn conn s.conns c is)) (requested_row P conn number body s c is at_once h)
 
 heard_by : (P : ℕ → Type 0) (conn number : ℕ) (r : Result Request RequestFault) (s : ServerState) (b : Bool) (did : Did) → b ≡ false
     → IsReplied P conn number r s did → IsReplied P conn number r s (cond b (nothing s) did)

@@ -46,6 +46,7 @@ use Rattle.subscription.specs.declared.spec.SubSpec.{SubSpec}
 use Rattle.subscription.specs.Calls.{modified}
 use Rattle.subscription.specs.State.{SubState}
 use Rattle.server_rules.specs.declared.conn.Asker.{Asker}
+use Rattle.server_rules.specs.declared.conn.Conn.{Conn}
 use Rattle.server_rules.specs.State.{ServerState, with_sub}
 use Rattle.server_rules.specs.Said.{Did, and_then, each}
 use Rattle.server_rules.specs.Answering.{fault_reply, faulted, good_header, replied}
@@ -58,52 +59,68 @@ use Rattle.server_rules.specs.Sessions.{activate_session, activation_answered, a
 use Rattle.server_rules.specs.Requests.{done_for, in_bound, in_session, noted, served, session_served, sub_served, token_in}
 use Rattle.server_laws.specs.Lockstep.{AllWait, IsAnswered, IsAtOnce, IsAtOnceSub, IsGood}
 use Rattle.server_laws.proofs.Kept.{results_kept}
-use Rattle.server_laws.proofs.Silent.{Tells, deleted_tells, each_tells, queued_tells, replied_same, says_join, transferred_tells}
+use Rattle.server_laws.proofs.Silent.{Tells, deleted_tells, each_tells, queued_tells, replied_same, says_join, transferred_tells, numbers_of, replied_numbers}
 use Rattle.server_laws.proofs.Waiting.{activated_waits, created_waits, filter_waits, first_waits, owned_same, requested_waits}
 
 -- ---- rows
 
+-- and the same connections are there, when it is answered too
+pub record KeptRow (P : ℕ → Type 0) (asker : Asker) (Good : Reply → Type 0) (s : ServerState) (did : Did) : Type 0 where
+  pub answered : IsAnswered P asker Good did
+  pub numbers : numbers_of did.state ≡ numbers_of s
+  pub from_numbers : numbers_of answered.from ≡ numbers_of s
+
 abbrev pub Row : (ℕ → Type 0) → Asker → (Reply → Type 0) → ServerState → Did → Type 0
-Row P asker Good s did = AllWait P s.sessions.sessions → IsAnswered P asker Good did
+Row P asker Good s did = AllWait P s.sessions.sessions → KeptRow P asker Good s did
 
 -- any fault is good
 abbrev pub Fine : (Reply → Type 0) → Type 0
 Fine Good = (handle code : ℕ) (s : ServerState) → Good (fault_reply handle code s)
 
-pub single : (P : ℕ → Type 0) (asker : Asker) (Good : Reply → Type 0) (s after : ServerState) (answer : Reply)
+pub single : (P : ℕ → Type 0) (asker : Asker) (Good : Reply → Type 0) (s after : ServerState) (answer : Reply) → numbers_of after ≡ numbers_of s
     → (AllWait P s.sessions.sessions → AllWait P after.sessions.sessions) → Good answer → Row P asker Good s (replied asker answer after)
-single P asker Good s after answer on good h = record {
-  front = [];
-  answer = answer;
-  from = after;
-  said = refl;
-  on = tt;
-  good = good;
-  waits = subst (λ sessions. AllWait P sessions.sessions) (sym (replied_same asker answer after)) (on h);
+single P asker Good s after answer same on good h = record {
+  answered = record {
+    front = [];
+    answer = answer;
+    from = after;
+    said = refl;
+    on = tt;
+    good = good;
+    waits = subst (λ sessions. AllWait P sessions.sessions) (sym (replied_same asker answer after)) (on h);
+  };
+  numbers = replied_numbers asker answer after ∙ same;
+  from_numbers = same;
 }
 
 pub fault_row : (P : ℕ → Type 0) (asker : Asker) (Good : Reply → Type 0) (code : ℕ) (s : ServerState) → Fine Good → Row P asker Good s (faulted asker code s)
-fault_row P asker Good code s fine = single P asker Good s s (fault_reply asker.handle code s) (λ h. h) (fine asker.handle code s)
+fault_row P asker Good code s fine = single P asker Good s s (fault_reply asker.handle code s) refl (λ h. h) (fine asker.handle code s)
 
 -- others are answered before
 pub behind : (P : ℕ → Type 0) (asker : Asker) (Good : Reply → Type 0) (s : ServerState) (rule : ServerState → Did) (did : Did) → Tells P s did
     → Row P asker Good did.state (rule did.state) → Row P asker Good s (and_then rule did)
 behind P asker Good s rule did first later h =
     let one = first h in
-    let other = later one.waits in
+    let other = later one.told.waits in
+    let last = other.answered in
     record {
-      front = did.said ++ other.front;
-      answer = other.answer;
-      from = other.from;
-      said = ap (λ l. did.said ++ l) other.said ∙ sym (append_assoc did.said other.front (replied asker other.answer other.from).said);
-      on = says_join P did.said other.front one.on other.on;
-      good = other.good;
-      waits = other.waits;
+      answered = record {
+        front = did.said ++ last.front;
+        answer = last.answer;
+        from = last.from;
+        said = ap (λ l. did.said ++ l) last.said ∙ sym (append_assoc did.said last.front (replied asker last.answer last.from).said);
+        on = says_join P did.said last.front one.told.on last.on;
+        good = last.good;
+        waits = last.waits;
+      };
+      numbers = other.numbers ∙ one.numbers;
+      from_numbers = other.from_numbers ∙ one.numbers;
     }
 
-from_row : (P : ℕ → Type 0) (asker : Asker) (Good : Reply → Type 0) (s before : ServerState) (did : Did)
+from_row : (P : ℕ → Type 0) (asker : Asker) (Good : Reply → Type 0) (s before : ServerState) (did : Did) → numbers_of before ≡ numbers_of s
     → (AllWait P s.sessions.sessions → AllWait P before.sessions.sessions) → Row P asker Good before did → Row P asker Good s did
-from_row P asker Good s before did on row h = row (on h)
+from_row P asker Good s before did same on row h =
+    let one = row (on h) in record { answered = one.answered; numbers = one.numbers ∙ same; from_numbers = one.from_numbers ∙ same }
 
 either_row : (P : ℕ → Type 0) (asker : Asker) (Good : Reply → Type 0) (b : Bool) (s : ServerState) (first other : Did) → Row P asker Good s first
     → Row P asker Good s other → Row P asker Good s (cond b first other)
@@ -115,16 +132,26 @@ done_row : {A : Type 0} (P : ℕ → Type 0) (asker : Asker) (Good : Reply → T
 done_row P asker Good rule (Ok found) s fine on = on found
 done_row P asker Good rule (Err code) s fine on = fault_row P asker Good code s fine
 
--- an answer after steps that leave the sessions
-stepped : {A : Type 0} (step : A → ServerState → ServerState) (list : List A) (s : ServerState)
-    → ((x : A) (t : ServerState) → (step x t).sessions ≡ t.sessions) → (after_each step list s).sessions ≡ s.sessions
-stepped step [] s on = refl
-stepped step (x ∷ more) s on = stepped step more (step x s) on ∙ on x s
+-- the sessions and the connections are as they were
+pub record Calm (after before : ServerState) : Type 0 where
+  pub sessions : after.sessions ≡ before.sessions
+  pub conns : after.conns ≡ before.conns
+
+-- an answer after steps that leave them
+stepped : {A : Type 0} (step : A → ServerState → ServerState) (list : List A) (s : ServerState) → ((x : A) (t : ServerState) → Calm (step x t) t)
+    → Calm (after_each step list s) s
+stepped step [] s on = record { sessions = refl; conns = refl }
+stepped step (x ∷ more) s on =
+    let one = on x s in
+    let rest = stepped step more (step x s) on in
+    record { sessions = rest.sessions ∙ one.sessions; conns = rest.conns ∙ one.conns }
 
 after_steps : {A : Type 0} (P : ℕ → Type 0) (asker : Asker) (Good : Reply → Type 0) (step : A → ServerState → ServerState) (list : List A) (s : ServerState) (answer : Reply)
-    → ((x : A) (t : ServerState) → (step x t).sessions ≡ t.sessions) → Good answer → Row P asker Good s (replied asker answer (after_each step list s))
+    → ((x : A) (t : ServerState) → Calm (step x t) t) → Good answer → Row P asker Good s (replied asker answer (after_each step list s))
 after_steps P asker Good step list s answer on good =
-    single P asker Good s (after_each step list s) answer (λ h. subst (λ sessions. AllWait P sessions.sessions) (sym (stepped step list s on)) h) good
+    let calm = stepped step list s on in
+    single P asker Good s (after_each step list s) answer (ap (map (λ (conn : Conn). conn.number)) calm.conns)
+    (λ h. subst (λ sessions. AllWait P sessions.sessions) (sym calm.sessions) h) good
 
 -- ---- what is good
 
@@ -136,27 +163,27 @@ fine_for r subs handle code s = (inr refl, tt)
 
 -- ---- services of items and subscriptions
 
-made_same : (sub : ℕ) (made : Result (ℕ × ItemSpec) ℕ) (s : ServerState) → (with_made sub made s).sessions ≡ s.sessions
-made_same sub (Ok made) s = refl
-made_same sub (Err code) s = refl
+made_same : (sub : ℕ) (made : Result (ℕ × ItemSpec) ℕ) (s : ServerState) → Calm (with_made sub made s) s
+made_same sub (Ok made) s = record { sessions = refl; conns = refl }
+made_same sub (Err code) s = record { sessions = refl; conns = refl }
 
-item_same : (sub : ℕ) (stamps : Timestamps) (asked : MonitoredItemCreateRequest) (s : ServerState) → (with_item sub stamps asked s).sessions ≡ s.sessions
+item_same : (sub : ℕ) (stamps : Timestamps) (asked : MonitoredItemCreateRequest) (s : ServerState) → Calm (with_item sub stamps asked s) s
 unfolding with_item
 item_same sub stamps asked s = made_same sub (item_judged sub stamps asked s) s
 
-mode_same : (sub : ℕ) (mode : Mode) (id : ℕ) (s : ServerState) → (with_mode_set sub mode id s).sessions ≡ s.sessions
+mode_same : (sub : ℕ) (mode : Mode) (id : ℕ) (s : ServerState) → Calm (with_mode_set sub mode id s) s
 unfolding with_mode_set
-mode_same sub mode id s = refl
+mode_same sub mode id s = record { sessions = refl; conns = refl }
 
-removed_same : (sub id : ℕ) (s : ServerState) → (without_item_of sub id s).sessions ≡ s.sessions
+removed_same : (sub id : ℕ) (s : ServerState) → Calm (without_item_of sub id s) s
 unfolding without_item_of
-removed_same sub id s = refl
+removed_same sub id s = record { sessions = refl; conns = refl }
 
-enabled_same : (enabled : Bool) (found : Option SubState) (id : ℕ) (s : ServerState) → (enabled_if enabled found id s).sessions ≡ s.sessions
-enabled_same enabled None id s = refl
-enabled_same enabled (Some sub) id s = refl
+enabled_same : (enabled : Bool) (found : Option SubState) (id : ℕ) (s : ServerState) → Calm (enabled_if enabled found id s) s
+enabled_same enabled None id s = record { sessions = refl; conns = refl }
+enabled_same enabled (Some sub) id s = record { sessions = refl; conns = refl }
 
-publishing_same : (session : ℕ) (enabled : Bool) (id : ℕ) (s : ServerState) → (with_publishing session enabled id s).sessions ≡ s.sessions
+publishing_same : (session : ℕ) (enabled : Bool) (id : ℕ) (s : ServerState) → Calm (with_publishing session enabled id s) s
 unfolding with_publishing
 publishing_same session enabled id s = enabled_same enabled (own_sub session id s) id s
 
@@ -198,7 +225,7 @@ new_row : (P : ℕ → Type 0) (asker : Asker) (session : ℕ) (Good : Reply →
 unfolding with_new_sub
 new_row P asker session Good spec s good =
     single P asker Good s (with_new_sub session spec s) (created_reply spec (good_header asker.handle (with_new_sub session spec s)))
-    (λ h. subst (AllWait P) (sym (owned_same spec.id (session_at session s.sessions.sessions) (table.disowned spec.id s.sessions))) h)
+    refl (λ h. subst (AllWait P) (sym (owned_same spec.id (session_at session s.sessions.sessions) (table.disowned spec.id s.sessions))) h)
     (good (good_header asker.handle (with_new_sub session spec s)))
 
 create_sub_row : (P : ℕ → Type 0) (asker : Asker) (session : ℕ) (r : CreateSubscriptionRequest) (subs : List SubState) (s : ServerState)
@@ -216,7 +243,7 @@ modify_sub_row P asker session r subs s =
     done_row P asker (IsGood (request.Subscription (sub_request.ModifySubscription r)) subs) (modify_one asker) (modify_checked session r s) s
     (fine_for (request.Subscription (sub_request.ModifySubscription r)) subs)
     (λ spec. single P asker (IsGood (request.Subscription (sub_request.ModifySubscription r)) subs) s (with_sub spec.id (modified spec s.age) s)
-    (modified_reply spec (good_header asker.handle (with_sub spec.id (modified spec s.age) s))) (λ h. h) (inl refl, tt))
+    (modified_reply spec (good_header asker.handle (with_sub spec.id (modified spec s.age) s))) refl (λ h. h) (inl refl, tt))
 
 set_publishing_row : (P : ℕ → Type 0) (asker : Asker) (session : ℕ) (r : SetPublishingModeRequest) (subs : List SubState) (s : ServerState)
     → Row P asker (IsGood (request.Subscription (sub_request.SetPublishingMode r)) subs) s (set_publishing asker session r s)
@@ -235,7 +262,7 @@ unfolding republish
 republish_row P asker session r subs s =
     done_row P asker (IsGood (request.Subscription (sub_request.Republish r)) subs) (republish_one asker) (republish_checked session r s) s
     (fine_for (request.Subscription (sub_request.Republish r)) subs)
-    (λ message. single P asker (IsGood (request.Subscription (sub_request.Republish r)) subs) s s (republished_reply message (good_header asker.handle s)) (λ h. h) (inl refl, tt))
+    (λ message. single P asker (IsGood (request.Subscription (sub_request.Republish r)) subs) s s (republished_reply message (good_header asker.handle s)) refl (λ h. h) (inl refl, tt))
 
 -- rules in turn, and an answer behind them
 all_row : (P : ℕ → Type 0) (asker : Asker) (Good : Reply → Type 0) (answer : ResponseHeader → Reply) (rule : ℕ → ServerState → Did) (ids : List ℕ) (s : ServerState)
@@ -243,7 +270,7 @@ all_row : (P : ℕ → Type 0) (asker : Asker) (Good : Reply → Type 0) (answer
     → Row P asker Good s (and_then (answered asker answer) (each rule ids s))
 all_row P asker Good answer rule ids s on good =
     behind P asker Good s (answered asker answer) (each rule ids s) (each_tells P rule ids s on)
-    (single P asker Good (each rule ids s).state (each rule ids s).state (answer (good_header asker.handle (each rule ids s).state)) (λ h. h)
+    (single P asker Good (each rule ids s).state (each rule ids s).state (answer (good_header asker.handle (each rule ids s).state)) refl (λ h. h)
     (good (good_header asker.handle (each rule ids s).state)))
 
 transfer_tells : (P : ℕ → Type 0) (session id : ℕ) (s : ServerState) → Tells P s (transfer_one session id s)
@@ -261,7 +288,7 @@ transfer_subs_row P asker session r s =
     (transfer_tells P session) (λ header. (inl refl, results_kept session r.subscription_ids s)))
 
 deleted_if_tells : (P : ℕ → Type 0) (found : Option SubState) (id : ℕ) (s : ServerState) → Tells P s (deleted_if found id s)
-deleted_if_tells P None id s h = record { on = tt; waits = h }
+deleted_if_tells P None id s h = record { told = record { on = tt; waits = h }; numbers = refl }
 deleted_if_tells P (Some sub) id s h = deleted_tells P id s h
 
 delete_tells : (P : ℕ → Type 0) (session id : ℕ) (s : ServerState) → Tells P s (delete_one session id s)
@@ -287,7 +314,7 @@ read_row P asker r subs s =
     done_row P asker (IsGood (request.Session (session_request.Read r)) subs) (read_all asker r.nodes_to_read) (read_checked r) s
     (fine_for (request.Session (session_request.Read r)) subs)
     (λ stamps. single P asker (IsGood (request.Session (session_request.Read r)) subs) s s
-    (read_reply (map (value_read (nodes_of s) stamps) r.nodes_to_read) (good_header asker.handle s)) (λ h. h) (inl refl, tt))
+    (read_reply (map (value_read (nodes_of s) stamps) r.nodes_to_read) (good_header asker.handle s)) refl (λ h. h) (inl refl, tt))
 
 call_row : (P : ℕ → Type 0) (asker : Asker) (session : ℕ) (r : CallRequest) (subs : List SubState) (s : ServerState)
     → Row P asker (IsGood (request.Session (session_request.Call r)) subs) s (call asker session r s)
@@ -296,7 +323,7 @@ call_row P asker session r subs s =
     done_row P asker (IsGood (request.Session (session_request.Call r)) subs) (call_all asker session r.methods_to_call)
     (passes (operations_fault (length r.methods_to_call))) s (fine_for (request.Session (session_request.Call r)) subs)
     (λ found. single P asker (IsGood (request.Session (session_request.Call r)) subs) s s
-    (call_reply (map (called session s) r.methods_to_call) (good_header asker.handle s)) (λ h. h) (inl refl, tt))
+    (call_reply (map (called session s) r.methods_to_call) (good_header asker.handle s)) refl (λ h. h) (inl refl, tt))
 
 -- ---- sessions
 
@@ -306,7 +333,7 @@ unfolding find_servers
 servers_row P asker r subs s =
     single P asker (IsGood (request.Session (session_request.FindServers r)) subs) s s
     (reply.Session (session_reply.FindServers (record { response_header = good_header asker.handle s; servers = servers_listed r.server_uris s.config.members })))
-    (λ h. h) (inl refl, tt)
+    refl (λ h. h) (inl refl, tt)
 
 endpoints_row : (P : ℕ → Type 0) (asker : Asker) (r : GetEndpointsRequest) (subs : List SubState) (s : ServerState)
     → Row P asker (IsGood (request.Session (session_request.GetEndpoints r)) subs) s (get_endpoints asker r s)
@@ -314,7 +341,7 @@ unfolding get_endpoints
 endpoints_row P asker r subs s =
     single P asker (IsGood (request.Session (session_request.GetEndpoints r)) subs) s s
     (reply.Session (session_reply.GetEndpoints (record { response_header = good_header asker.handle s; endpoints = endpoint s.config ∷ [] })))
-    (λ h. h) (inl refl, tt)
+    refl (λ h. h) (inl refl, tt)
 
 created_row : (P : ℕ → Type 0) (asker : Asker) (Good : Reply → Type 0) (uri : Option (List ℕ)) (timeout : ℕ) (s : ServerState)
     → ((answer : CreateSessionResponse) → Good (reply.Session (session_reply.CreateSession answer))) → Row P asker Good s (session_created asker uri timeout s)
@@ -322,7 +349,7 @@ unfolding creation_answered
 created_row P asker Good uri timeout s good =
     single P asker Good s (with_session asker uri timeout s)
     (reply.Session (session_reply.CreateSession (created_response asker (s.sessions.last_counter + 1) timeout (with_session asker uri timeout s))))
-    (λ h. created_waits P (s.sessions.last_counter + 1) asker.conn uri timeout s.age s.sessions.sessions h)
+    refl (λ h. created_waits P (s.sessions.last_counter + 1) asker.conn uri timeout s.age s.sessions.sessions h)
     (good (created_response asker (s.sessions.last_counter + 1) timeout (with_session asker uri timeout s)))
 
 create_session_row : (P : ℕ → Type 0) (asker : Asker) (r : CreateSessionRequest) (subs : List SubState) (s : ServerState)
@@ -348,7 +375,7 @@ unfolding activation_done
 activation_row P asker Good (Ok counter) s never fine good =
     single P asker Good s s
     (reply.Session (session_reply.ActivateSession (record { response_header = good_header asker.handle s; server_nonce = nonce; results = []; diagnostic_infos = record {} })))
-    (λ h. h) (good (record { response_header = good_header asker.handle s; server_nonce = nonce; results = []; diagnostic_infos = record {} }))
+    refl (λ h. h) (good (record { response_header = good_header asker.handle s; server_nonce = nonce; results = []; diagnostic_infos = record {} }))
 activation_row P asker Good (Err (session_fault.Code code)) s never fine good = fault_row P asker Good code s fine
 activation_row P asker Good (Err session_fault.OutOfMemory) s never fine good = absurd (never refl)
 
@@ -356,7 +383,7 @@ activated_row : (P : ℕ → Type 0) (asker : Asker) (Good : Reply → Type 0) (
     → ((answer : ActivateSessionResponse) → Good (reply.Session (session_reply.ActivateSession answer))) → Row P asker Good s (session_activated asker token s)
 unfolding session_activated
 activated_row P asker Good token s fine good =
-    from_row P asker Good s (record s { sessions = table.activated token asker.conn s.age s.sessions }) _
+    from_row P asker Good s (record s { sessions = table.activated token asker.conn s.age s.sessions }) _ refl
     (λ h. first_waits P (has_token s.sessions.boot token) (one.activated asker.conn s.age) s.sessions.sessions (activated_waits P asker.conn s.age) h)
     (activation_row P asker Good (activate_answer token asker.conn s.sessions) (record s { sessions = table.activated token asker.conn s.age s.sessions })
     (never_memory asker.conn (session_of token s.sessions)) fine good)
@@ -378,12 +405,21 @@ without_owned_same : (deletes : Bool) (session : ℕ) (s : ServerState) → (wit
 without_owned_same true session s = all_gone_same (ids_of (own_subs session s)) s
 without_owned_same false session s = refl
 
+all_gone_conns : (ids : List ℕ) (s : ServerState) → (all_gone ids s).conns ≡ s.conns
+all_gone_conns [] s = refl
+all_gone_conns (id ∷ ids) s = all_gone_conns ids (gone id s)
+
+without_owned_conns : (deletes : Bool) (session : ℕ) (s : ServerState) → (without_owned deletes session s).conns ≡ s.conns
+without_owned_conns true session s = all_gone_conns (ids_of (own_subs session s)) s
+without_owned_conns false session s = refl
+
 session_closed_row : (P : ℕ → Type 0) (asker : Asker) (Good : Reply → Type 0) (deletes : Bool) (session : ℕ) (s : ServerState)
     → ((header : ResponseHeader) → Good (reply.Session (session_reply.CloseSession header))) → Row P asker Good s (session_closed asker deletes session s)
 unfolding session_closed close_answered
 session_closed_row P asker Good deletes session s good =
     let after : ServerState = without_session session (without_owned deletes session s) in
     single P asker Good s after (reply.Session (session_reply.CloseSession (good_header asker.handle after)))
+    (ap (map (λ (conn : Conn). conn.number)) (without_owned_conns deletes session s))
     (λ h. filter_waits P (λ one. not (is_numbered session one)) (without_owned deletes session s).sessions.sessions
     (subst (AllWait P) (sym (without_owned_same deletes session s)) h))
     (good (good_header asker.handle after))
@@ -410,13 +446,13 @@ done_for_row P asker Good row (Err code) s fine on = fault_row P asker Good code
 in_session_row : (P : ℕ → Type 0) (asker : Asker) (Good : Reply → Type 0) (row : ℕ → ServerState → Did) (token : Option (List ℕ)) (s : ServerState) → Fine Good
     → ((session : ℕ) → Row P asker Good (noted asker token s) (row session (noted asker token s))) → Row P asker Good s (in_session row asker token s)
 in_session_row P asker Good row token s fine on =
-    from_row P asker Good s (noted asker token s) _ (noted_waits P asker token s)
+    from_row P asker Good s (noted asker token s) _ refl (noted_waits P asker token s)
     (done_for_row P asker Good row (check_answer token asker.conn s.sessions) (noted asker token s) fine on)
 
 in_bound_row : (P : ℕ → Type 0) (asker : Asker) (Good : Reply → Type 0) (row : ℕ → ServerState → Did) (token : Option (List ℕ)) (s : ServerState) → Fine Good
     → ((session : ℕ) → Row P asker Good (noted asker token s) (row session (noted asker token s))) → Row P asker Good s (in_bound row asker token s)
 in_bound_row P asker Good row token s fine on =
-    from_row P asker Good s (noted asker token s) _ (noted_waits P asker token s)
+    from_row P asker Good s (noted asker token s) _ refl (noted_waits P asker token s)
     (done_for_row P asker Good row (bound_answer token asker.conn s.sessions) (noted asker token s) fine on)
 
 sub_served_row : (P : ℕ → Type 0) (asker : Asker) (r : SubRequest) (session : ℕ) (s : ServerState) → IsAtOnceSub r

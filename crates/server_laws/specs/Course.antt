@@ -1,5 +1,5 @@
 -- What a rule of a server comes to, in moves.
-use Rattle.std.specs.Prelude.{◌≡◌, ℕ, List, [], ◌∷◌, ◌++◌, Option, Some, Result, Ok}
+use Rattle.std.specs.Prelude.{◌≡◌, ℕ, List, [], ◌∷◌, ◌++◌, ◌⊎◌, Option, Some, Result, Ok}
 use Rattle.ua_base.specs.declared.modes.Mode.{Mode}
 use Rattle.set_model.specs.declared.source.Change.{Change}
 use Rattle.ua_channel.specs.declared.heard.Heard.{Heard}
@@ -145,11 +145,30 @@ abbrev pub said_in : List ServerAct → List Said
 said_in [] = []
 said_in (act ∷ acts) = said_by act ++ said_in acts
 
+-- a mode is asked for in a subscription by one of these requests
+abbrev pub IsAsked : List Happening → ℕ → Mode → Type 0
+IsAsked [] id mode = ⊥
+IsAsked (happening ∷ earlier) id mode = (leave_of happening ≡ Setting id (Some mode)) ⊎ IsAsked earlier id mode
+
+abbrev pub IsAskedDoing : List Happening → ℕ → Doing → Type 0
+IsAskedDoing happenings id (Modes item mode) = IsAsked happenings id mode
+IsAskedDoing happenings id other = Unit {0}
+
+abbrev pub IsAskedMove : List Happening → Move → Type 0
+IsAskedMove happenings (Does id doing) = IsAskedDoing happenings id doing
+IsAskedMove happenings other = Unit {0}
+
+-- each mode that is set was asked for
+abbrev pub AreAsked : List Happening → List Move → Type 0
+AreAsked happenings [] = Unit {0}
+AreAsked happenings (move ∷ moves) = IsAskedMove happenings move × AreAsked happenings moves
+
 -- all that happened, newest first, comes to moves: they lead to the state after it, what was said is within what they tell,
--- and the changes that were fed are theirs
+-- the changes that were fed are theirs, and the modes that they set were asked for
 pub record IsCourse (happenings : List Happening) (s : ServerState) : Type 0 where
   pub moves : List Move
   pub fair : AreFair moves (core_of s)
   pub leads : core_of (state_after happenings s) ≡ moved_all moves (core_of s)
   pub told : IsWithin (facts_said (said_after happenings s)) (facts_of_all moves (core_of s))
   pub feeds : feeds_in moves ≡ fed_in happenings
+  pub asked : AreAsked happenings moves

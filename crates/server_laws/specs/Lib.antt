@@ -6,3 +6,4 @@ pub mod Messages
 pub mod Neighbours
 pub mod Counted
 pub mod Lockstep
+pub mod Whole

@@ -1,5 +1,5 @@
 -- On which connections something is said, and when a request is answered by the next that is put on its connection.
-use Rattle.std.specs.Prelude.{◌≡◌, ◌≢◌, ℕ, ◌+◌, List, [], ◌∷◌, ◌++◌, ◌⊎◌, Some, Result, Ok, Err}
+use Rattle.std.specs.Prelude.{◌≡◌, ◌≢◌, ℕ, ◌+◌, List, [], ◌∷◌, ◌++◌, ◌⊎◌, Some, Result, Ok, Err, Bool, true, false, filter}
 use Rattle.ua_base.specs.Status.{good}
 use Rattle.retransmit.specs.Kept.{numbers_of}
 use Rattle.sessions.specs.declared.session.Session.{Session}
@@ -20,8 +20,9 @@ use Rattle.ua_services.specs.Requests.{request_at}
 use Rattle.ua_services.specs.Families.{reply_id, reply_put, request_id, request_put}
 use Rattle.ua_services.specs.declared.request.RequestFault.{RequestFault}
 use Rattle.server_rules.specs.declared.conn.Asker.{Asker}
-use Rattle.server_rules.specs.State.{ServerState, sub_at}
-use Rattle.server_rules.specs.Said.{Did, Said}
+use Rattle.server_rules.specs.declared.conn.Conn.{Conn}
+use Rattle.server_rules.specs.State.{ServerState, conn_at, sub_at}
+use Rattle.server_rules.specs.Said.{Acknowledged, Did, Limited, Opened, Refused, Renewed, Replied, Said, Told}
 use Rattle.server_rules.specs.Requests.{asker_of}
 use Rattle.server_rules.specs.Step.{Happening, Hears}
 use Rattle.server_rules.specs.Answering.{replied}
@@ -119,10 +120,12 @@ abbrev pub IsGoodFor : Result Request RequestFault → List SubState → Reply �
 IsGoodFor (Ok r) subs answer = IsGood r subs answer
 IsGoodFor (Err fault) subs answer = IsFault answer
 
--- what comes on a connection is answered there under its own number, and all else that is said is on such connections
+-- what comes on a connection is answered there under its own number, and the connection is there then; and all else that is
+-- said is on such connections
 pub record IsReplied (P : ℕ → Type 0) (conn number : ℕ) (r : Result Request RequestFault) (s : ServerState) (did : Did) : Type 0 where
   pub handle : ℕ
   pub answered : IsAnswered P (asker_of conn number handle) (IsGoodFor r s.subs) did
+  pub there : (c : Conn) × (conn_at conn answered.from.conns ≡ Some c)
 
 -- what is heard is heard on such a connection
 abbrev pub MayHear : (ℕ → Type 0) → Happening → Type 0
@@ -145,3 +148,31 @@ IsNoPublish other = Unit {0}
 -- any connection
 abbrev pub Anywhere : ℕ → Type 0
 Anywhere conn = Unit {0}
+
+-- ---- messages that are put
+
+-- limits and a new token are no messages
+abbrev pub is_put : Told → Bool
+is_put (Acknowledged greeting) = true
+is_put (Opened number response) = true
+is_put (Replied number answer) = true
+is_put (Refused code) = true
+is_put (Limited limits) = false
+is_put (Renewed channel token) = false
+
+abbrev pub puts : List Said → List Said
+puts said = filter (λ one. is_put one.told) said
+
+-- one message is put, on this connection
+pub record IsOnePut (conn : ℕ) (did : Did) : Type 0 where
+  pub one : Said
+  pub put : puts did.said ≡ one ∷ []
+  pub on : one.conn ≡ conn
+
+-- a HEL, an OPN, or a fault
+abbrev pub IsOpening : Heard → Type 0
+IsOpening (heard.Greeting body) = Unit {0}
+IsOpening (heard.Opening channel follows number body) = Unit {0}
+IsOpening (heard.Message number body) = ⊥
+IsOpening heard.Close = ⊥
+IsOpening (heard.Fault code) = Unit {0}

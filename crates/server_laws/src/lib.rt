@@ -16,9 +16,10 @@ pub use lives::{
 };
 pub use lockstep::{
     connections_are_quiet_until_a_publish, nothing_is_sent_before_a_publish,
-    requests_are_answered_at_once, transfers_answer_the_kept_numbers,
+    openings_are_answered_at_once, requests_are_answered_at_once,
+    transfers_answer_the_kept_numbers,
 };
 pub use messages::{
-    kept_messages_were_sent, messages_are_counted, messages_are_of_their_subscription,
-    neighbours_of_messages_are_linked,
+    chains_of_messages_are_linked, kept_messages_were_sent, messages_are_counted,
+    messages_are_of_their_subscription, neighbours_of_messages_are_linked,
 };

@@ -9,11 +9,14 @@ ghost use Rattle.ua_sub_msgs.specs.declared.subscription.TransferSubscriptionsRe
 ghost use Rattle.ua_services.specs.declared.request.Request.TheVariants as request;
 ghost use Rattle.ua_services.specs.Requests.{request_at};
 ghost use Rattle.server_rules.specs.declared.config.ServerConfig.{ServerConfig};
+ghost use Rattle.ua_services.specs.declared.reply.Reply.{Reply};
+ghost use Rattle.server_rules.specs.declared.conn.Asker.{Asker};
 ghost use Rattle.server_rules.specs.declared.conn.Conn.{Conn};
+ghost use Rattle.server_rules.specs.Answering.{replied};
 ghost use Rattle.server_rules.specs.State.{ServerState, conn_at, new_server};
 ghost use Rattle.server_rules.specs.Said.{Said};
 ghost use Rattle.server_rules.specs.Step.{Closes, Happening, Hears, after, ears};
-ghost use Rattle.server_laws.specs.Lockstep.{Anywhere, IsAtOnceOf, IsNoPublish, IsQuiet, IsReplied, IsTold, MayHear, Never, NoneWaits, Other, SaysOn};
+ghost use Rattle.server_laws.specs.Lockstep.{Anywhere, IsAtOnceOf, IsNoPublish, IsOnePut, IsOpening, IsQuiet, IsReplied, IsTold, MayHear, Never, NoneWaits, Other, SaysOn};
 
 /// A request other than Publish that is taken on a connection is answered at once, under its number, by the response of
 /// its service or by a ServiceFault, and a body that is no request by a fault. What is said before that in the same
@@ -58,4 +61,13 @@ pub fn transfers_answer_the_kept_numbers()
         → let asked = Ok (request.Subscription (sub_request.TransferSubscriptions r)) in
         is_deaf (ears conn s) ≡ false → request_at body ≡ asked
         → IsReplied Anywhere conn number asked s (after (Hears conn (heard.Message number body)) s) }
+{}
+
+/// On a connection that hears, one message is put there for a HEL and for an OPN, be it an ERR; an answer puts one on
+/// the connection of its request, where that is there.
+pub fn openings_are_answered_at_once()
+    ensures openings { (conn : ℕ) (h : Heard) (s : ServerState) → is_deaf (ears conn s) ≡ false → IsOpening h
+        → IsOnePut conn (after (Hears conn h) s) }
+    ensures answers { (asker : Asker) (answer : Reply) (s : ServerState) (c : Conn) → conn_at asker.conn s.conns ≡ Some c
+        → IsOnePut asker.conn (replied asker answer s) }
 {}

@@ -21,6 +21,7 @@ ghost use Rattle.server_laws.specs.Facts.{IsWithin, facts_said};
 ghost use Rattle.server_laws.specs.Lives.{IsSent, messages_sent};
 ghost use Rattle.server_laws.specs.Messages.{AreMessages};
 ghost use Rattle.server_laws.specs.Neighbours.{IsLinkedStream};
+ghost use Rattle.server_laws.specs.Whole.{IsLinkedChain, NeverOff};
 ghost use Rattle.server_laws.specs.Moves.{Repeated};
 
 /// The data messages of a subscription are numbered from 1 on, and after 4294967295 comes 1 (OPC 10000-4, 5.13.1.1).
@@ -75,3 +76,19 @@ pub fn messages_are_counted()
     ensures { (spec : SubSpec) (start : ℕ) (calls : List Call)
         → length (messages_sent spec start calls) + held (state_of spec start calls).items ≤ entries_put spec start calls }
 {}
+
+/// Where no SetMonitoringMode asked for Disabled, the stream of an item is never broken off: of two neighbours among all
+/// entries that the subscription's messages ever told of it, and those that its queue holds, the later one is linked to
+/// the former, in one message or in two.
+pub fn chains_of_messages_are_linked()
+    ensures { (config : ServerConfig) (current : List Change) (happenings : List Happening) (id : ℕ) (sub : SubState)
+        (item_id : ℕ) (item : ItemState) → let s = new_server config current in
+        NeverOff happenings id → sub_at id (state_after happenings s).subs ≡ Some sub
+        → item_of item_id sub.items ≡ Some item → is_disabled item.mode ≡ false
+        → IsLinkedChain id sub item_id item (current ++ fed_in happenings) (life_of happenings s) }
+{
+    subscription::messages_are_numbered();
+    subscription::sent_messages_are_kept();
+    subscription::neighbours_are_linked();
+    subscription::ids_rise();
+}

@@ -1,5 +1,5 @@
 -- What an acknowledgement says of the kept messages.
-use Rattle.std.proofs.Common.{◌≡◌, ℕ, ◌==◌, List, [], ◌∷◌, Bool, true, false, cond, not, Option, Some, None, refl, sym, ◌∙◌, ap}
+use Rattle.std.proofs.Common.{◌≡◌, ℕ, ◌==◌, List, [], ◌∷◌, Bool, true, false, Option, Some, None, refl, sym, ◌∙◌, ap}
 use Rattle.std.specs.Prelude.{Result, Ok, Err, IsErr, is_ok, is_some, OnErr, OnOk, ◌↔◌}
 use Rattle.retransmit.specs.declared.retransmission.Sent.{Sent}
 use Rattle.retransmit.specs.Kept.{message_of, without}

@@ -1,7 +1,6 @@
 -- What rules leave as it was.
-use Rattle.std.proofs.Common.{◌≡◌, ℕ, zero, suc, List, [], ◌∷◌, Bool, true, false, cond, Option, Some, None, refl, sym, ◌∙◌, ap}
+use Rattle.std.proofs.Common.{◌≡◌, ℕ, zero, suc, List, [], ◌∷◌, Bool, true, false, cond, Option, Some, None, refl, ◌∙◌, ap}
 use Rattle.ua_services.specs.declared.reply.Reply.{Reply}
-use Rattle.sessions.specs.State.{SessionsState}
 use Rattle.subscription.specs.State.{SubState}
 use Rattle.subscription.specs.declared.cycle.Cycle.{Cycle}
 use Rattle.subscription.specs.declared.cycle.Cycle.TheVariants.{Quiet, Notify, KeepAlive, Late, Expired}
@@ -9,12 +8,12 @@ use Rattle.subscription.specs.Cycle.{cycled, row_of}
 use Rattle.server_rules.specs.declared.conn.Asker.{Asker}
 use Rattle.server_rules.specs.declared.conn.Conn.{Conn}
 use Rattle.server_rules.specs.declared.waiting.Waiting.{Waiting}
-use Rattle.server_rules.specs.State.{NoticeState, ServerState, sub_at, with_sub}
-use Rattle.server_rules.specs.Said.{Did, and_then, each, nothing}
+use Rattle.server_rules.specs.State.{NoticeState, ServerState, with_sub}
+use Rattle.server_rules.specs.Said.{Did, each}
 use Rattle.server_rules.specs.Answering.{fault_reply, refused_on, replied, replied_on, replied_to, replied_within, takes}
 use Rattle.ua_base.specs.Status.{bad_response_too_large, bad_tcp_message_too_large}
-use Rattle.server_rules.specs.Moves.{answered_by, answered_queued, answered_within, expired_sub, gone, has_notice, has_subs, left, noticed, noticed_of, oldest_notice, oldest_waiting, owner, queued, released, served, served_by, served_if, served_within, told, told_notice, told_why, unqueued}
-use Rattle.server_rules.specs.Publishing.{has_more, sends, sent, sent_by, sent_if, sent_on, sent_with, sent_within}
+use Rattle.server_rules.specs.Moves.{answered_by, answered_within, expired_sub, gone, has_notice, left, noticed, noticed_of, oldest_waiting, released, served, served_if, served_within, told, told_notice, told_why, unqueued}
+use Rattle.server_rules.specs.Publishing.{sends, sent, sent_by, sent_if, sent_on, sent_with, sent_within}
 use Rattle.server_rules.specs.Timer.{by_row, cycle, cycle_of, ids_due, is_served, moment, sends_for}
 
 -- either way

@@ -4,7 +4,7 @@ use Rattle.std.proofs.lemmas.Bool.Decides.{nat_tests}
 use Rattle.std.proofs.lemmas.List.{append-nil, append_assoc}
 use Rattle.server_rules.specs.State.{ServerState}
 use Rattle.server_rules.specs.Said.{Did, and_then, nothing}
-use Rattle.server_rules.specs.Timer.{millisecond, moment, ticked}
+use Rattle.server_rules.specs.Timer.{millisecond, ticked}
 use Rattle.server_subs.proofs.Keeping.{moment_age}
 
 ticked_none : (s : ServerState) → ticked zero s ≡ nothing s

@@ -1,5 +1,5 @@
 -- Time that goes by with nothing due, at one leap.
-use Rattle.std.proofs.Common.{◌≡◌, ℕ, zero, suc, ◌+◌, ◌-◌, ◌^◌, ◌<◌, ◌≤◌, ◌==◌, List, [], ◌∷◌, Bool, true, false, cond, Option, Some, None, min, max, map, nat_le, nat_lt, refl, sym, ◌∙◌, ap, ap₂, arith, drop, get_or, length}
+use Rattle.std.proofs.Common.{◌≡◌, ℕ, zero, suc, ◌+◌, ◌-◌, ◌^◌, ◌<◌, ◌≤◌, ◌==◌, List, [], ◌∷◌, Bool, true, false, cond, Option, Some, None, min, map, nat_le, refl, sym, ◌∙◌, ap, ap₂, arith, drop, get_or, length}
 use Rattle.std.specs.List.{All, filter}
 use Rattle.std.specs.Prelude.{IfSome, ◌++◌}
 use Rattle.std.proofs.lemmas.Bool.Decides.{nat_tests}
@@ -14,8 +14,8 @@ use Rattle.sessions.specs.Table.{due_of, expired, lives, owned_among, owner_amon
 use Rattle.sessions.proofs.Moments.{before_due}
 use Rattle.subscription.specs.State.{SubState}
 use Rattle.server_rules.specs.State.{ServerState}
-use Rattle.server_rules.specs.Said.{Did, and_then, each, nothing}
-use Rattle.server_rules.specs.Timer.{cycle, has_come, ids_due, millisecond, moment, sessions_expired, ticked}
+use Rattle.server_rules.specs.Said.{Did, and_then, nothing}
+use Rattle.server_rules.specs.Timer.{has_come, ids_due, millisecond, moment, ticked}
 use Rattle.server_subs.specs.Due.{advanced, due_or_last, next_age, next_due, subs_due}
 use Rattle.server_subs.proofs.Keeping.{moment_age}
 

@@ -1,6 +1,6 @@
 -- The subscription of an id, by its place.
-use Rattle.std.proofs.Common.{◌≡◌, ℕ, suc, ◌<◌, ◌≤◌, ◌==◌, List, [], ◌∷◌, ◌++◌, Bool, true, false, cond, not, ◌||◌, nat_lt, Option, Some, None, length, map, refl, sym, ◌∙◌, ap, arith, get_or, set, subst}
-use Rattle.std.specs.List.{position_or_len, position, filter, list_any}
+use Rattle.std.proofs.Common.{◌≡◌, ℕ, suc, ◌<◌, ◌≤◌, ◌==◌, List, [], ◌∷◌, ◌++◌, Bool, true, false, cond, ◌||◌, nat_lt, Option, Some, None, length, map, refl, sym, ◌∙◌, ap, arith, get_or, set, subst}
+use Rattle.std.specs.List.{position_or_len, position, filter}
 use Rattle.std.proofs.lemmas.Bool.Decides.{nat_tests}
 use Rattle.std.specs.Prelude.{Result, Ok, Err, OnErr, OnOk}
 use Rattle.sessions.specs.declared.ownership.Ownership.{Ownership}

@@ -1,17 +1,16 @@
 -- A session's queued Publishes, one by one.
-use Rattle.std.proofs.Common.{◌≡◌, ℕ, zero, suc, ◌+◌, ◌<◌, ◌==◌, List, [], ◌∷◌, Bool, true, false, cond, Option, Some, None, length, drop, refl, sym, ◌∙◌, ap, arith}
+use Rattle.std.proofs.Common.{◌≡◌, ℕ, zero, suc, ◌+◌, List, [], ◌∷◌, Bool, true, false, cond, Option, Some, None, length, drop, refl, sym, ◌∙◌, ap, arith}
 use Rattle.std.specs.Prelude.{slice_get, ◌++◌}
 use Rattle.sessions.specs.declared.session.Parked.{Parked}
 use Rattle.sessions.specs.declared.session.Session.{Session}
 use Rattle.sessions.specs.Session.{is_numbered, without_oldest}
-use Rattle.sessions.specs.State.{SessionsState}
-use Rattle.sessions.specs.Table.{at_first, conn_of, oldest_of, session_at, unparked, waits}
+use Rattle.sessions.specs.Table.{at_first, conn_of, oldest_of, session_at}
 use Rattle.server_rules.specs.declared.waiting.Waiting.{Waiting}
 use Rattle.server_rules.specs.State.{ServerState}
 use Rattle.server_rules.specs.Said.{Did, and_then, nothing}
-use Rattle.server_rules.specs.Moves.{answered_by, answered_queued, answered_within, count_queued, has_notice, oldest_waiting, queued, served, served_by, served_if, served_within, told, unqueued, waiting_of}
+use Rattle.server_rules.specs.Moves.{answered_queued, answered_within, count_queued, has_notice, oldest_waiting, queued, served, served_within, told, unqueued, waiting_of}
 use Rattle.server_rules.specs.Answering.{faulted}
-use Rattle.server_rules.specs.Publishing.{has_more, sent, sent_if, sent_on, sent_with, sent_within}
+use Rattle.server_rules.specs.Publishing.{has_more, sent, sent_on, sent_within}
 use Rattle.server_subs.specs.Leaving.{next_sending, next_served}
 use Rattle.server_subs.proofs.Keeping.{SameSessions, replied_sessions, sent_sessions, told_sessions}
 

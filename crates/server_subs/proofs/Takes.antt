@@ -1,11 +1,10 @@
 -- A session's oldest queued Publish, taken out.
-use Rattle.std.proofs.Common.{◌≡◌, ℕ, suc, ◌==◌, List, [], ◌∷◌, Bool, true, false, not, Option, Some, None, length, refl, sym, ◌∙◌, ap, arith, subst}
+use Rattle.std.proofs.Common.{◌≡◌, ℕ, suc, ◌==◌, List, [], ◌∷◌, true, false, not, Option, Some, None, length, refl, sym, ◌∙◌, ap, arith, subst}
 use Rattle.std.proofs.lemmas.Bool.Decides.{nat_tests}
 use Rattle.std.specs.Prelude.{IsSome, slice_get}
 use Rattle.sessions.specs.declared.session.Parked.{Parked}
 use Rattle.sessions.specs.declared.session.Session.{Session}
-use Rattle.sessions.specs.State.{SessionsState}
-use Rattle.sessions.specs.Table.{conn_of, oldest_of, session_at, unparked, waits}
+use Rattle.sessions.specs.Table.{conn_of, oldest_of, session_at, waits}
 use Rattle.server_rules.specs.declared.waiting.Waiting.{Waiting}
 use Rattle.server_rules.specs.State.{ServerState}
 use Rattle.server_rules.specs.Moves.{oldest_waiting, unqueued, waiting_of}

@@ -1,5 +1,5 @@
 -- What callers of a server's data ask of its subscriptions, and make of them.
-use Rattle.std.specs.Prelude.{◌<◌, ℕ, ◌^◌, List, [], ◌∷◌, ◌++◌, length, Bool, false, Option, Some, None}
+use Rattle.std.specs.Prelude.{◌<◌, ℕ, [], ◌∷◌, ◌++◌, length, Bool, false, Option, Some, None}
 use Rattle.sessions.specs.State.{SessionsState}
 use Rattle.sessions.specs.Table.{disowned, owned, owner_of, ownership_of}
 use Rattle.subscription.specs.declared.spec.SubSpec.{SubSpec}

@@ -1,5 +1,5 @@
 -- How a subscription leaves a session, in the steps of the code.
-use Rattle.std.specs.Prelude.{ℕ, length, nat_lt, List, Bool, true, false, Option, Some, None, position, if◌then◌else◌}
+use Rattle.std.specs.Prelude.{ℕ, length, nat_lt, List, Option, Some, None, position, if◌then◌else◌}
 use Rattle.subscription.specs.State.{SubState}
 use Rattle.server_rules.specs.declared.waiting.Waiting.{Waiting}
 use Rattle.server_rules.specs.State.{NoticeState, ServerState}

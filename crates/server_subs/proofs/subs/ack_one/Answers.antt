@@ -1,4 +1,3 @@
-use Rattle.std.proofs.Common.{rules}
 use Rattle.server_subs.proofs.Acks.{gives}
 use Rattle.server_subs.proofs.subs.ack_one.Goals as goal
 

@@ -1,4 +1,3 @@
-use Rattle.std.proofs.Common.{ℕ}
 use Rattle.server_rules.specs.Moves.{answered_queued}
 use Rattle.server_rules.specs.Moves.{queued}
 use Rattle.server_subs.specs.Continuing.{Continues}

@@ -1,4 +1,4 @@
-use Rattle.std.proofs.Common.{rules, ◌≡◌, ◌<◌, ◌≤◌, ◌^◌, ◌-◌, ◌++◌, ap, sym, arith}
+use Rattle.std.proofs.Common.{rules, ◌≡◌, ◌<◌, ◌^◌, ◌-◌, ◌++◌, ap, sym, arith}
 use Rattle.server_rules.specs.State.{ServerState}
 use Rattle.server_rules.specs.Said.{Did, orders_of}
 use Rattle.server_rules.specs.Timer.{ticked}

@@ -1,4 +1,3 @@
-use Rattle.std.proofs.Common.{sym}
 use Rattle.server_subs.proofs.Oldest.{has_by}
 use Rattle.server_subs.proofs.notices.Notices.has.Goals as goal
 

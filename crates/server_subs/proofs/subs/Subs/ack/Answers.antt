@@ -1,10 +1,10 @@
-use Rattle.std.proofs.Common.{◌∙◌, ◌≡◌, Some, refl, sym, ap, true, false}
+use Rattle.std.proofs.Common.{◌∙◌, refl, sym, ap}
 use Rattle.subscription.specs.State.{SubState}
 use Rattle.subscription.specs.Calls.{acknowledged}
 use Rattle.std.specs.Prelude.{is_some}
 use Rattle.retransmit.specs.Kept.{message_of}
 use Rattle.server_rules.specs.Publishing.{kept_of}
-use Rattle.server_subs.proofs.Places.{apart_at, at_place, nowhere, on_ok}
+use Rattle.server_subs.proofs.Places.{apart_at, at_place, nowhere}
 use Rattle.server_subs.proofs.subs.Subs.ack.Goals as goal
 
 pub returns-in-Some-clause-acknowledged : goal.returns-in-Some-clause-acknowledged

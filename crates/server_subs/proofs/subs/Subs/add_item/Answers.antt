@@ -1,12 +1,11 @@
-use Rattle.std.proofs.Common.{◌∙◌, ◌≡◌, Some, refl, sym, ap, true, false}
-use Rattle.subscription.specs.State.{SubState}
-use Rattle.std.specs.Prelude.{IfSome, OnOk}
+use Rattle.std.proofs.Common.{◌∙◌, refl, sym, ap}
+use Rattle.std.specs.Prelude.{IfSome}
 use Rattle.std.proofs.lemmas.Result.{on_ok_weaker}
 use Rattle.std.proofs.Common.{subst}
 use Rattle.subscription.specs.Calls.{added}
 use Rattle.server_rules.specs.State.{sub_at}
 use Rattle.server_subs.specs.Access.{HasRoom}
-use Rattle.server_subs.proofs.Places.{apart_at, at_place, nowhere, on_ok}
+use Rattle.server_subs.proofs.Places.{apart_at, at_place, nowhere}
 use Rattle.server_subs.proofs.subs.Subs.add_item.Goals as goal
 
 pub add_to-requires-clause-room : goal.add_to-requires-clause-room

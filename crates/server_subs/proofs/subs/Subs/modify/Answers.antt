@@ -1,7 +1,7 @@
-use Rattle.std.proofs.Common.{◌∙◌, ◌≡◌, Some, refl, sym, ap, true, false}
+use Rattle.std.proofs.Common.{refl, ap}
 use Rattle.subscription.specs.State.{SubState}
 use Rattle.subscription.specs.Calls.{modified}
-use Rattle.server_subs.proofs.Places.{apart_at, at_place, nowhere, on_ok}
+use Rattle.server_subs.proofs.Places.{apart_at, at_place, nowhere}
 use Rattle.server_subs.proofs.subs.Subs.modify.Goals as goal
 
 pub returns-in-Some : goal.returns-in-Some

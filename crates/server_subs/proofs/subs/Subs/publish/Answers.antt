@@ -1,9 +1,8 @@
-use Rattle.std.proofs.Common.{◌∙◌, ◌≡◌, Some, refl, sym, ap, true, false}
+use Rattle.std.proofs.Common.{Some, refl, ap}
 use Rattle.std.specs.Int.{w64}
 use Rattle.std.proofs.Math.Facts.{to_z-of_z}
-use Rattle.subscription.specs.State.{SubState}
 use Rattle.subscription.specs.Calls.{published}
-use Rattle.server_subs.proofs.Places.{apart_at, at_place, nowhere, on_ok}
+use Rattle.server_subs.proofs.Places.{apart_at, at_place, nowhere}
 use Rattle.server_subs.proofs.subs.Subs.publish.Goals as goal
 
 pub returns-in_ok-publish_next-in-Some-clause-out : goal.returns-in_ok-publish_next-in-Some-clause-out

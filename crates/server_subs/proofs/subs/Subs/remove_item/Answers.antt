@@ -1,8 +1,8 @@
-use Rattle.std.proofs.Common.{◌∙◌, ◌≡◌, Some, refl, sym, ap, true, false}
+use Rattle.std.proofs.Common.{◌∙◌, refl, sym, ap}
 use Rattle.subscription.specs.State.{SubState}
 use Rattle.subscription.specs.Calls.{removed}
 use Rattle.server_subs.specs.Access.{has_item_of}
-use Rattle.server_subs.proofs.Places.{apart_at, at_place, nowhere, on_ok}
+use Rattle.server_subs.proofs.Places.{apart_at, at_place, nowhere}
 use Rattle.server_subs.proofs.subs.Subs.remove_item.Goals as goal
 
 pub returns-in-Some-clause-removed : goal.returns-in-Some-clause-removed

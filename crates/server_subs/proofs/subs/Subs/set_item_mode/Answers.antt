@@ -1,4 +1,4 @@
-use Rattle.std.proofs.Common.{◌∙◌, ◌≡◌, Some, refl, sym, ap, true, false}
+use Rattle.std.proofs.Common.{refl, ap}
 use Rattle.subscription.specs.State.{SubState}
 use Rattle.subscription.specs.Calls.{with_mode_of}
 use Rattle.server_subs.proofs.Places.{apart_at, at_place, nowhere, on_ok}

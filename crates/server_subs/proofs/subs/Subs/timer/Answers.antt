@@ -1,9 +1,9 @@
-use Rattle.std.proofs.Common.{◌∙◌, ◌≡◌, Some, refl, sym, ap, true, false}
+use Rattle.std.proofs.Common.{◌∙◌, Some, refl, sym, ap}
 use Rattle.subscription.specs.State.{SubState}
 use Rattle.subscription.specs.Cycle.{cycled}
 use Rattle.server_subs.specs.Outgoing.{row_at}
 use Rattle.server_subs.proofs.Places.{cycled_id}
-use Rattle.server_subs.proofs.Places.{apart_at, at_place, nowhere, on_ok}
+use Rattle.server_subs.proofs.Places.{apart_at, at_place, nowhere}
 use Rattle.server_subs.proofs.subs.Subs.timer.Goals as goal
 
 pub returns-in-Some-clause-cycled : goal.returns-in-Some-clause-cycled

@@ -1,0 +1,4 @@
+pub mod Logs
+pub mod Rising
+pub mod Readiness
+pub mod Choices
