@@ -1,0 +1,5 @@
+pub mod OneEnd
+pub mod Keeping
+pub mod Deafening
+pub mod Taking
+pub mod Nothing
