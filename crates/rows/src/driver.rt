@@ -22,11 +22,19 @@ fn answer_of<D: Driver>(alloc: Global, driver: &mut D, line: &str) -> Result<Str
     Ok(text)
 }
 
+/// The text of a line, of which a carriage return at its end is a part.
+fn text_of(line: &[u8]) -> Result<&str, Stop> {
+    match str::from_utf8(line) {
+        Ok(text) => Ok(text),
+        Err(_) => Err(Stop::BadLine),
+    }
+}
+
 /// Answers each line of standard input before it reads the next.
 pub fn answer_all<D: Driver>(rt: &HostRuntime, driver: &mut D) -> Result<(), Stop> {
     let alloc = rt.alloc();
-    for line in BufReader::new(alloc, rt.reader())?.lines(alloc) {
-        let text = answer_of(alloc, driver, line?.as_str())?;
+    for line in BufReader::new(alloc, rt.reader())?.split(alloc, b'\n') {
+        let text = answer_of(alloc, driver, text_of(&line?)?)?;
         println!(rt; "{text}")?;
     }
     Ok(())
