@@ -1,9 +1,8 @@
 //! Connections: how they come and go, and what is heard on them.
 
-ghost use Rattle.std.specs.Prelude.{◌≡◌, ◌≤◌, ◌++◌, ◌∷◌, [], false, OnOk, IfOk, length};
-ghost use Rattle.ua_chunks.specs.Bodies.{written_error, written_greeting};
-ghost use Rattle.ua_channel.specs.State.{is_deaf, new_channel};
-ghost use Rattle.server_rules.specs.Connecting.{acknowledged, acknowledgement, closed, closing, first_ear, greeted, greeting, is_above, is_small};
+ghost use Rattle.std.specs.Prelude.{◌≡◌, ◌++◌, [], false, OnOk};
+ghost use Rattle.ua_channel.specs.State.{is_deaf};
+ghost use Rattle.server_rules.specs.Connecting.{acknowledged, acknowledgement, closed, closing, first_ear, greeting, is_above, is_small};
 ghost use Rattle.server_rules.specs.Connecting.{hears_on, hears, limit_with, limits_of, new_conn, opened};
 ghost use Rattle.server_rules.specs.Said.{orders_of};
 ghost use Rattle.server_rules.specs.Step.{ears, fed, leveled};

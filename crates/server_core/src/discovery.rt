@@ -1,6 +1,6 @@
 //! What servers there are, and how they are reached (OPC 10000-4, 5.4).
 
-ghost use Rattle.std.specs.Prelude.{◌≡◌, ◌++◌, ◌∷◌, [], pos, IfOk, None, OnOk, Some, codes, filter, map};
+ghost use Rattle.std.specs.Prelude.{◌≡◌, ◌++◌, ◌∷◌, [], IfOk, None, OnOk, Some, codes, filter, map};
 ghost use Rattle.std.specs.List.{list_any};
 ghost use Rattle.ua_chunks.specs.Sending.{none_policy};
 ghost use Rattle.sessions.specs.Table.{same_text};

@@ -76,12 +76,7 @@ impl ServerCore {
     /// # Errors
     ///
     /// Want of memory, here and in each call below. Nothing is said of what stands then.
-    pub fn open(
-        &mut self,
-        _alloc: Global,
-        conn: u32,
-        to: &mut Vec<(u32, Order)>,
-    ) -> Result<(), OutOfMemory>
+    pub fn open(&mut self, conn: u32, to: &mut Vec<(u32, Order)>) -> Result<(), OutOfMemory>
         ensures state { OnOk result (self.new ≡ (after (Opens conn) self.old).state) }
         ensures orders { OnOk result (to.new.items ≡ to.old.items ++ orders_of (after (Opens conn) self.old).said) }
     {
@@ -89,12 +84,7 @@ impl ServerCore {
     }
 
     /// A connection ended: its sessions are bound to none, and what they had queued is dropped.
-    pub fn close(
-        &mut self,
-        _alloc: Global,
-        conn: u32,
-        to: &mut Vec<(u32, Order)>,
-    ) -> Result<(), OutOfMemory>
+    pub fn close(&mut self, conn: u32, to: &mut Vec<(u32, Order)>) -> Result<(), OutOfMemory>
         ensures state { OnOk result (self.new ≡ (after (Closes conn) self.old).state) }
         ensures orders { OnOk result (to.new.items ≡ to.old.items ++ orders_of (after (Closes conn) self.old).said) }
     {
@@ -103,12 +93,7 @@ impl ServerCore {
     }
 
     /// An item has a new value, which each monitored item of its node takes.
-    pub fn feed(
-        &mut self,
-        _alloc: Global,
-        change: Change,
-        to: &mut Vec<(u32, Order)>,
-    ) -> Result<(), OutOfMemory>
+    pub fn feed(&mut self, change: Change, to: &mut Vec<(u32, Order)>) -> Result<(), OutOfMemory>
         ensures state { OnOk result (self.new ≡ (after (Feeds change) self.old).state) }
         ensures orders { OnOk result (to.new.items ≡ to.old.items ++ orders_of (after (Feeds change) self.old).said) }
     {
@@ -129,12 +114,7 @@ impl ServerCore {
     }
 
     /// Sets the ServiceLevel (OPC 10000-4, 6.6.2.4.2).
-    pub fn level(
-        &mut self,
-        _alloc: Global,
-        level: u8,
-        to: &mut Vec<(u32, Order)>,
-    ) -> Result<(), OutOfMemory>
+    pub fn level(&mut self, level: u8, to: &mut Vec<(u32, Order)>) -> Result<(), OutOfMemory>
         ensures state { OnOk result (self.new ≡ (after (Levels level) self.old).state) }
         ensures orders { OnOk result (to.new.items ≡ to.old.items ++ orders_of (after (Levels level) self.old).said) }
     {

@@ -4,9 +4,9 @@ ghost use Rattle.std.specs.Prelude.{◌≡◌, ◌≤◌, ◌++◌, IfOk, OnOk, 
 ghost use Rattle.ua_structures.specs.Body.{Answers, body_at};
 ghost use Rattle.ua_session_msgs.specs.Families.{session_requests};
 ghost use Rattle.ua_services.specs.Families.{written_reply};
-ghost use Rattle.server_rules.specs.Opening.{asked_at, granted, granted_on, is_unsecured, issued, opened_as, opened_by};
+ghost use Rattle.server_rules.specs.Opening.{asked_at, granted, granted_on, is_unsecured, issued, opened_as};
 ghost use Rattle.server_rules.specs.Opening.{opened_for, opening, opening_reply, opening_response, revised_lifetime};
-ghost use Rattle.server_rules.specs.Opening.{token_renewed, with_channel};
+ghost use Rattle.server_rules.specs.Opening.{token_renewed};
 ghost use Rattle.server_rules.specs.Said.{orders_of};
 
 use server_rules::{Conn, OpeningRequest, SecurityMode, SecurityTokenRequestType};

@@ -2,7 +2,7 @@
 
 ghost use Rattle.std.specs.Prelude.{◌≡◌, ◌++◌, OnOk};
 ghost use Rattle.sessions.specs.Table.{bound_answer, check_answer};
-ghost use Rattle.ua_services.specs.Requests.{Asks, request_at};
+ghost use Rattle.ua_services.specs.Requests.{Asks};
 ghost use Rattle.std.specs.Prelude.{Result};
 ghost use Rattle.ua_services.specs.declared.request.Request.{Request};
 ghost use Rattle.ua_services.specs.declared.request.RequestFault.{RequestFault};

@@ -1,7 +1,6 @@
 //! Sessions (OPC 10000-4, 5.6).
 
-ghost use Rattle.std.specs.Prelude.{◌≡◌, ◌++◌, ◌∷◌, [], IfOk, OnOk, Some, map, replicate};
-ghost use Rattle.server_rules.specs.Moves.{own_subs};
+ghost use Rattle.std.specs.Prelude.{◌≡◌, ◌++◌, IfOk, OnOk};
 ghost use Rattle.server_rules.specs.Said.{orders_of};
 ghost use Rattle.server_rules.specs.Sessions.{activate_session, activation_done, all_gone, close_answered, close_session};
 ghost use Rattle.server_rules.specs.Sessions.{create_session, created_response, creation_answered, is_anonymous, nonce};

@@ -2,9 +2,6 @@
 
 ghost use Rattle.std.specs.Prelude.{◌≡◌, ◌++◌, false, IfOk, OnOk};
 ghost use Rattle.sessions.specs.Table.{may_transfer};
-ghost use Rattle.ua_structures.specs.Body.{object_by};
-ghost use Rattle.ua_sub_msgs.specs.Families.{notification_put, notifications};
-ghost use Rattle.ua_sub_msgs.specs.declared.notification.Notification.TheVariants as notification;
 ghost use Rattle.server_rules.specs.Said.{orders_of};
 ghost use Rattle.server_rules.specs.State.{sub_at};
 ghost use Rattle.server_rules.specs.Moves.{answered_queued, deleted, expired_sub, gone, left, notice_message, noticed, other_than, publish_reply, released, served, told, transferred_sub};

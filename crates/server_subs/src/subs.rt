@@ -1,4 +1,4 @@
-ghost use Rattle.std.specs.Prelude.{◌≡◌, ◌≤◌, ◌<◌, ◌++◌, ◌∷◌, [], filter, is_some, length, map, not, position, IfOk, IfSome, IsNone, OnErr, OnOk};
+ghost use Rattle.std.specs.Prelude.{◌≡◌, ◌≤◌, ◌<◌, ◌++◌, ◌∷◌, [], is_some, length, map, position, IfOk, IfSome, IsNone, OnErr, OnOk};
 ghost use Rattle.std.specs.Option.{option_copied};
 ghost use Rattle.retransmit.specs.Kept.{message_of};
 ghost use Rattle.subscription.specs.Calls.{acknowledged, added, fed, modified, moved, published, removed, with_enabled, with_mode_of};

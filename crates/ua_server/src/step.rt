@@ -19,7 +19,7 @@ fn open_new(alloc: Global, rest: &mut Rest<ServerCore>, conn: u32) -> Result<(),
 {
     let mut orders = Vec::new(alloc);
     open_end(alloc, &mut rest.channels, conn)?;
-    rest.hub.open(alloc, conn, &mut orders)?;
+    rest.hub.open(conn, &mut orders)?;
     obey_each(alloc, &mut rest.channels, orders)
 }
 
@@ -53,7 +53,7 @@ fn close_end(alloc: Global, rest: &mut Rest<ServerCore>, conn: u32) -> Result<()
 {
     let mut orders = Vec::new(alloc);
     rest.channels.close(conn);
-    rest.hub.close(alloc, conn, &mut orders)?;
+    rest.hub.close(conn, &mut orders)?;
     obey_each(alloc, &mut rest.channels, orders)
 }
 
@@ -71,7 +71,7 @@ fn feed(alloc: Global, rest: &mut Rest<ServerCore>, change: Change) -> Result<()
     ensures { OnOk result (rest.new ≡ with_ends rest.old.channels (after (Feeds change) rest.old.hub)) }
 {
     let mut orders = Vec::new(alloc);
-    rest.hub.feed(alloc, change, &mut orders)?;
+    rest.hub.feed(change, &mut orders)?;
     obey_each(alloc, &mut rest.channels, orders)
 }
 
@@ -87,7 +87,7 @@ fn level(alloc: Global, rest: &mut Rest<ServerCore>, level: u8) -> Result<(), Ou
     ensures { OnOk result (rest.new ≡ with_ends rest.old.channels (after (Levels level) rest.old.hub)) }
 {
     let mut orders = Vec::new(alloc);
-    rest.hub.level(alloc, level, &mut orders)?;
+    rest.hub.level(level, &mut orders)?;
     obey_each(alloc, &mut rest.channels, orders)
 }
 
