@@ -1,5 +1,5 @@
 -- What the services of items and subscriptions do, in moves.
-use Rattle.std.proofs.Common.{◌≡◌, ℕ, ◌+◌, ◌*◌, ◌<◌, ◌≤◌, List, [], ◌∷◌, Bool, true, false, cond, ◌||◌, nat_le, length, map, Option, Some, None, refl, sym, ap, ◌∙◌, subst, arith, max, min}
+use Rattle.std.proofs.Common.{◌≡◌, ℕ, ◌+◌, ◌*◌, ◌<◌, ◌≤◌, List, [], ◌∷◌, Bool, true, false, cond, ◌||◌, nat_le, length, map, Option, Some, None, refl, sym, ap, ◌∙◌, subst, arith, max, min, inl, inr}
 use Rattle.std.specs.Prelude.{Result, Ok, Err}
 use Rattle.std.proofs.lemmas.Bool.Decides.{nat_tests}
 use Rattle.ua_base.specs.Status.{bad_message_not_available, bad_monitoring_mode_invalid, bad_node_id_unknown, bad_subscription_id_invalid, bad_too_many_monitored_items, bad_too_many_subscriptions}
@@ -38,7 +38,8 @@ use Rattle.server_rules.specs.Items.{create_all, create_checked, create_items, d
 use Rattle.server_rules.specs.Subscriptions.{asked_spec, create_one, create_sub, delete_all as subs_deleted, delete_one, delete_subs, deleted_if, deleted_reply, enable_all, enabled_if, is_full, modify_checked, modify_one, modify_sub, new_checked, republish, republish_checked, republish_one, revised_spec, set_publishing, sub_known, transfer_all, transfer_one, transfer_reply, transfer_result, transfer_subs, with_new_sub, with_publishing}
 use Rattle.server_laws.specs.Moves.{Adds, Answered, Answers, Asks, Does, Enables, Ends, Makes, Modes, ModesSet, Modifies, Removes, Repeated, Repeats, Subscribed, ValuesRead, repeated, repeated_of}
 use Rattle.server_laws.specs.Facts.{facts_of_reply}
-use Rattle.server_laws.specs.Course.{Comes, Leave, MayRepeat, MaySet, Reading, Setting}
+use Rattle.server_laws.specs.Course.{Adding, Comes, IsAmong, Leave, MayAdd, MayRepeat, MayTransfer, Transferring, MaySet, Reading, Setting}
+use Rattle.server_laws.proofs.Finding.{gone_here}
 use Rattle.server_laws.proofs.Coming.{begun_by, idle, then_comes}
 use Rattle.server_laws.proofs.Replying.{answer_comes, fault_comes, quiet}
 use Rattle.server_laws.proofs.Owning.{From, deleted_comes, transferred_comes}
@@ -105,24 +106,29 @@ room_queue (Some sub) spec made least is = by_full _ is
     by_full true is = absurd cc
     by_full false is = let same : (sub.given + 1, spec) ≡ made = cc in subst (λ (made : ℕ × ItemSpec). 1 ≤ made.1.queue) same least
 
-made_from : (leave : Leave) (sub : ℕ) (made : Result (ℕ × ItemSpec) ℕ) (s : ServerState) → ((one : ℕ × ItemSpec) → made ≡ Ok one → 1 ≤ one.1.queue)
+made_from : (leave : Leave) (sub : ℕ) → MayAdd leave sub → (made : Result (ℕ × ItemSpec) ℕ) (s : ServerState) → ((one : ℕ × ItemSpec) → made ≡ Ok one → 1 ≤ one.1.queue)
     → From leave s (with_made sub made s)
-made_from leave sub (Ok made) s least did h = begun_by leave (Does sub (Adds made.1)) s (with_made sub (Ok made) s) did tt (least made refl) refl h
-made_from leave sub (Err code) s least did h = h
+made_from leave sub may (Ok made) s least did h = begun_by leave (Does sub (Adds made.1)) s (with_made sub (Ok made) s) did may (least made refl) refl h
+made_from leave sub may (Err code) s least did h = h
 
-item_from : (leave : Leave) (sub : ℕ) (stamps : Timestamps) (asked : MonitoredItemCreateRequest) (s : ServerState) → From leave s (with_item sub stamps asked s)
+pub item_least : (sub : ℕ) (stamps : Timestamps) (asked : MonitoredItemCreateRequest) (s : ServerState) (one : ℕ × ItemSpec) → item_judged sub stamps asked s ≡ Ok one
+    → 1 ≤ one.1.queue
+item_least sub stamps asked s one is =
+    through (judged s.config.items stamps asked) (with_room (sub_at sub s.subs)) (λ (made : ℕ × ItemSpec). 1 ≤ made.1.queue) one
+    (λ spec good room. room_queue (sub_at sub s.subs) spec one (judged_queue s.config.items stamps asked spec good) room) is
+
+item_from : (leave : Leave) (sub : ℕ) → MayAdd leave sub → (stamps : Timestamps) (asked : MonitoredItemCreateRequest) (s : ServerState)
+    → From leave s (with_item sub stamps asked s)
 unfolding with_item
-item_from leave sub stamps asked s =
-    made_from leave sub (item_judged sub stamps asked s) s
-    (λ one is. through (judged s.config.items stamps asked) (with_room (sub_at sub s.subs)) (λ (made : ℕ × ItemSpec). 1 ≤ made.1.queue) one
-    (λ spec good room. room_queue (sub_at sub s.subs) spec one (judged_queue s.config.items stamps asked spec good) room) is)
+item_from leave sub may stamps asked s = made_from leave sub may (item_judged sub stamps asked s) s (item_least sub stamps asked s)
 
-pub create_items_comes : (leave : Leave) (asker : Asker) (session : ℕ) (request : CreateMonitoredItemsRequest) (s : ServerState)
-    → Comes leave s (create_items asker session request s)
+pub create_items_comes : (asker : Asker) (session : ℕ) (request : CreateMonitoredItemsRequest) (s : ServerState)
+    → Comes (Adding request.subscription_id) s (create_items asker session request s)
 unfolding create_items
-create_items_comes leave asker session request s =
+create_items_comes asker session request s =
+    let leave : Leave = Adding request.subscription_id in
     done_comes leave asker (create_all asker request.subscription_id request.items_to_create) (create_checked session request s) s
-    (λ stamps is. each_from leave (with_item request.subscription_id stamps) request.items_to_create s (item_from leave request.subscription_id stamps) _
+    (λ stamps is. each_from leave (with_item request.subscription_id stamps) request.items_to_create s (item_from leave request.subscription_id refl stamps) _
     (quiet leave asker _ _ refl))
 
 -- ---- modes, and items that end
@@ -141,7 +147,7 @@ mode_of_chain (Err fault) own found code mode is = absurd cc
 mode_of_chain (Ok one) (Err fault) found code mode is = absurd cc
 mode_of_chain (Ok one) (Ok other) found code mode is = mode_is found code mode is
 
-mode_asked : (session : ℕ) (request : SetMonitoringModeRequest) (mode : Mode) (s : ServerState) → modes_checked session request s ≡ Ok mode
+pub mode_asked : (session : ℕ) (request : SetMonitoringModeRequest) (mode : Mode) (s : ServerState) → modes_checked session request s ≡ Ok mode
     → mode_named request.monitoring_mode ≡ Some mode
 mode_asked session request mode s is =
     mode_of_chain (passes (operations_fault (length request.monitored_item_ids))) (own_checked session request.subscription_id s)
@@ -171,9 +177,9 @@ delete_items_comes leave asker session request s =
 
 -- ---- a subscription is made
 
-record IsNew (spec : SubSpec) (s : ServerState) : Type 0 where
-  id : spec.id ≡ s.config.boot * 65536 + (s.made + 1)
-  room : s.made < 65535
+pub record IsNew (spec : SubSpec) (s : ServerState) : Type 0 where
+  pub id : spec.id ≡ s.config.boot * 65536 + (s.made + 1)
+  pub room : s.made < 65535
 
 new_by : (full : Bool) (code : ℕ) (one spec : SubSpec) → cond full (Err code) (Ok one) ≡ Ok spec → (full ≡ false) × (one ≡ spec)
 new_by true code one spec is = absurd cc
@@ -187,7 +193,7 @@ asked_id : (request : CreateSubscriptionRequest) (s : ServerState) → (asked_sp
 unfolding revised_spec
 asked_id request s = refl
 
-is_new : (request : CreateSubscriptionRequest) (s : ServerState) (spec : SubSpec) → new_checked request s ≡ Ok spec → IsNew spec s
+pub is_new : (request : CreateSubscriptionRequest) (s : ServerState) (spec : SubSpec) → new_checked request s ≡ Ok spec → IsNew spec s
 is_new request s spec is =
     let h = new_by (is_full s) bad_too_many_subscriptions (asked_spec request s) spec is in
     let room : nat_le 65535 s.made ≡ false = second_false (nat_le 32 (length s.subs)) (nat_le 65535 s.made) h.0 in
@@ -203,7 +209,7 @@ made_comes leave asker session spec s h =
     let none : ServerState = record less { sessions = disowned spec.id s.sessions } in
     let owner : ServerState = record less { sessions = owned spec.id session (disowned spec.id s.sessions) } in
     begun_by leave (Ends spec.id) s less _ tt tt refl
-    (begun_by leave (Asks (Disown spec.id)) less none _ tt tt refl
+    (begun_by leave (Asks (Disown spec.id)) less none _ tt (gone_here spec.id s.subs) refl
     (begun_by leave (Asks (Own spec.id session)) none owner _ tt tt refl
     (answer_comes leave (Makes spec s.age) owner (with_new_sub session spec s) asker _ tt (h.id, h.room) refl (all_within (Subscribed spec.id ∷ [])))))
 
@@ -282,17 +288,28 @@ all_comes leave asker answer rule ids s on none =
     then_comes leave s (answered asker answer) (each rule ids s) (each_comes leave rule ids s on)
     (quiet leave asker (answer (good_header asker.handle (each rule ids s).state)) (each rule ids s).state (none (good_header asker.handle (each rule ids s).state)))
 
-transfer_one_comes : (leave : Leave) (session id : ℕ) (s : ServerState) → Comes leave s (transfer_one session id s)
+pub transfer_one_comes : (leave : Leave) (session id : ℕ) (s : ServerState) → MayTransfer leave id → Comes leave s (transfer_one session id s)
 unfolding transfer_one
-transfer_one_comes leave session id s = transferred_comes leave id session s
+transfer_one_comes leave session id s may = transferred_comes leave id session s may
 
-pub transfer_subs_comes : (leave : Leave) (asker : Asker) (session : ℕ) (request : TransferSubscriptionsRequest) (s : ServerState)
-    → Comes leave s (transfer_subs asker session request s)
+transfers_come : (leave : Leave) (session : ℕ) (ids : List ℕ) (s : ServerState) → ((id : ℕ) → IsAmong id ids → MayTransfer leave id)
+    → Comes leave s (each (transfer_one session) ids s)
+transfers_come leave session [] s may = idle leave s
+transfers_come leave session (id ∷ ids) s may =
+    then_comes leave s (each (transfer_one session) ids) (transfer_one session id s) (transfer_one_comes leave session id s (may id (inl refl)))
+    (transfers_come leave session ids (transfer_one session id s).state (λ other h. may other (inr h)))
+
+pub transfer_subs_comes : (asker : Asker) (session : ℕ) (request : TransferSubscriptionsRequest) (s : ServerState)
+    → Comes (Transferring request.subscription_ids) s (transfer_subs asker session request s)
 unfolding transfer_subs
-transfer_subs_comes leave asker session request s =
+transfer_subs_comes asker session request s =
+    let leave : Leave = Transferring request.subscription_ids in
     done_comes leave asker (transfer_all asker session request.subscription_ids) (passes (operations_fault (length request.subscription_ids))) s
-    (λ found is. all_comes leave asker (transfer_reply (answers (transfer_result session) (leaves (transfer_one session)) request.subscription_ids s))
-    (transfer_one session) request.subscription_ids s (transfer_one_comes leave session) (λ header. refl))
+    (λ found is.
+    let answer : ResponseHeader → Reply = transfer_reply (answers (transfer_result session) (leaves (transfer_one session)) request.subscription_ids s) in
+    let first : Did = each (transfer_one session) request.subscription_ids s in
+    then_comes leave s (answered asker answer) first (transfers_come leave session request.subscription_ids s (λ id h. h))
+    (quiet leave asker (answer (good_header asker.handle first.state)) first.state refl))
 
 deleted_if_comes : (leave : Leave) (found : Option SubState) (id : ℕ) (s : ServerState) → Comes leave s (deleted_if found id s)
 deleted_if_comes leave None id s = idle leave s

@@ -158,7 +158,7 @@ sent_by : (enabled : Bool) (most : ℕ) (items : List ItemState)
 sent_by true most items = left_held most items
 sent_by false most items = omega arith
 
-published_items : (now : ℤ) (s : SubState) → (published now s).items ≡ items_left s
+pub published_items : (now : ℤ) (s : SubState) → (published now s).items ≡ items_left s
 published_items now s = by_entries (entries_told s)
   where
     by_entries : (entries : List Told) → (after_sending (sent_with entries now (record s { items = items_left s }))).items ≡ items_left s
@@ -170,7 +170,7 @@ message_count : (number : ℕ) (now : ℤ) (entries : List Told) (messages : Lis
 message_count number now [] messages = omega arith
 message_count number now (one ∷ more) messages = let long = length-append messages (message_of number now (one ∷ more) ∷ []) in omega (arith, long)
 
-cycled_items : (queued : Bool) (s : SubState) → (cycled queued s).items ≡ s.items
+pub cycled_items : (queued : Bool) (s : SubState) → (cycled queued s).items ≡ s.items
 cycled_items queued s = by_row (row_of queued s)
   where
     by_row : (row : Cycle) → (after_row row queued s).items ≡ s.items

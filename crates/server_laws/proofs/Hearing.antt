@@ -144,7 +144,7 @@ in_bound_comes leave row asker token s on =
 
 sub_served_comes : (asker : Asker) (r : SubRequest) (session : ℕ) (s : ServerState) → Comes (leave_of_sub r) s (sub_served asker r session s)
 unfolding sub_served
-sub_served_comes asker (sub_request.CreateMonitoredItems r) session s = create_items_comes Nothing asker session r s
+sub_served_comes asker (sub_request.CreateMonitoredItems r) session s = create_items_comes asker session r s
 sub_served_comes asker (sub_request.SetMonitoringMode r) session s = set_modes_comes asker session r s
 sub_served_comes asker (sub_request.DeleteMonitoredItems r) session s = delete_items_comes Nothing asker session r s
 sub_served_comes asker (sub_request.CreateSubscription r) session s = create_sub_comes Nothing asker session r s
@@ -152,7 +152,7 @@ sub_served_comes asker (sub_request.ModifySubscription r) session s = modify_sub
 sub_served_comes asker (sub_request.SetPublishingMode r) session s = set_publishing_comes Nothing asker session r s
 sub_served_comes asker (sub_request.Publish r) session s = publish_comes Nothing asker session r s
 sub_served_comes asker (sub_request.Republish r) session s = republish_comes (Repeating r.subscription_id r.retransmit_sequence_number) asker session r s (refl, refl)
-sub_served_comes asker (sub_request.TransferSubscriptions r) session s = transfer_subs_comes Nothing asker session r s
+sub_served_comes asker (sub_request.TransferSubscriptions r) session s = transfer_subs_comes asker session r s
 sub_served_comes asker (sub_request.DeleteSubscriptions r) session s = delete_subs_comes Nothing asker session r s
 
 session_served_comes : (asker : Asker) (r : SessionRequest) (s : ServerState) → Comes (leave_of_session r) s (session_served asker r s)

@@ -170,7 +170,7 @@ nothing_said happening s may h =
     let told = after_tells Never happening s may h in
     (never_says (after happening s).said told.on, told.waits)
 
-all_anywhere : (sessions : List Session) → AllWait Anywhere sessions
+pub all_anywhere : (sessions : List Session) → AllWait Anywhere sessions
 all_anywhere [] = tt
 all_anywhere (x ∷ sessions) = (λ conn is. inr tt, all_anywhere sessions)
 

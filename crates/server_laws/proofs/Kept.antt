@@ -24,7 +24,7 @@ use Rattle.server_laws.proofs.Replying.{replied_says}
 
 -- ---- nothing of a subscription changes where others are answered
 
-replied_subs : (asker : Asker) (answer : Reply) (s : ServerState) → (replied asker answer s).state.subs ≡ s.subs
+pub replied_subs : (asker : Asker) (answer : Reply) (s : ServerState) → (replied asker answer s).state.subs ≡ s.subs
 replied_subs asker answer s = ap (λ (c : Core). c.subs) (replied_says asker answer s).same
 
 told_by : (waiting : Waiting) (notice : Option NoticeState) (session : ℕ) (s : ServerState) → (told_notice waiting notice session s).state.subs ≡ s.subs
@@ -59,7 +59,7 @@ answered_by_subs code session more (Some waiting) s rest =
     rest (faulted waiting.asker code (unqueued session s)).state
     ∙ replied_subs waiting.asker (fault_reply waiting.asker.handle code (unqueued session s)) (unqueued session s)
 
-answered_subs : (most code session : ℕ) (s : ServerState) → (answered_within most code session s).state.subs ≡ s.subs
+pub answered_subs : (most code session : ℕ) (s : ServerState) → (answered_within most code session s).state.subs ≡ s.subs
 unfolding answered_within
 answered_subs zero code session s = refl
 answered_subs (suc most) code session s = answered_by_subs code session (answered_within most code session) (oldest_waiting session s) s (answered_subs most code session)
@@ -73,7 +73,7 @@ released_subs session s =
     either_subs (has_subs session s || has_notice session s) s (nothing s) (answered_queued bad_no_subscription session s) refl
     (answered_subs (queued session s) bad_no_subscription session s)
 
-left_subs : (session : ℕ) (s : ServerState) → (left session s).state.subs ≡ s.subs
+pub left_subs : (session : ℕ) (s : ServerState) → (left session s).state.subs ≡ s.subs
 unfolding left
 left_subs session s = released_subs session (served session s).state ∙ served_subs (queued session s) session s
 
@@ -85,7 +85,7 @@ noticed_of_subs : (sub : Option SubState) (session code : ℕ) (s : ServerState)
 noticed_of_subs None session code s = refl
 noticed_of_subs (Some sub) session code s = noticed_subs (notice_of session code sub) s
 
-told_why_subs : (session : Option ℕ) (code : ℕ) (sub : Option SubState) (s : ServerState) → (told_why session code sub s).state.subs ≡ s.subs
+pub told_why_subs : (session : Option ℕ) (code : ℕ) (sub : Option SubState) (s : ServerState) → (told_why session code sub s).state.subs ≡ s.subs
 told_why_subs None code sub s = refl
 told_why_subs (Some session) code sub s = left_subs session (noticed_of sub session code s) ∙ noticed_of_subs sub session code s
 
@@ -100,10 +100,10 @@ pub record IsSame (id : ℕ) (s : ServerState) (sub : SubState) : Type 0 where
 abbrev pub SameKept : ServerState → ServerState → Type 0
 SameKept s after = (id : ℕ) (sub : SubState) → sub_at id after.subs ≡ Some sub → IsSame id s sub
 
-same_now : (s after : ServerState) → after.subs ≡ s.subs → SameKept s after
+pub same_now : (s after : ServerState) → after.subs ≡ s.subs → SameKept s after
 same_now s after same id sub found = record { before = sub; found = sym (ap (sub_at id) same) ∙ found; kept = refl }
 
-same_then : (s middle after : ServerState) → SameKept s middle → SameKept middle after → SameKept s after
+pub same_then : (s middle after : ServerState) → SameKept s middle → SameKept middle after → SameKept s after
 same_then s middle after first later id sub found =
     let one = later id sub found in
     let other = first id one.before one.found in
@@ -133,7 +133,7 @@ told_same id to s =
     (same_now (given_sub id to s) (told_why (other_than to (owner id s)) good_subscription_transferred (sub_at id s.subs) (given_sub id to s)).state
     (told_why_subs (other_than to (owner id s)) good_subscription_transferred (sub_at id s.subs) (given_sub id to s)))
 
-either_same : (b : Bool) (s : ServerState) (one other : Did) → SameKept s one.state → SameKept s other.state → SameKept s (cond b one other).state
+pub either_same : (b : Bool) (s : ServerState) (one other : Did) → SameKept s one.state → SameKept s other.state → SameKept s (cond b one other).state
 either_same true s one other h rest = h
 either_same false s one other h rest = rest
 
@@ -144,7 +144,7 @@ transferred_same id to s =
     (told_why (other_than to (owner id s)) good_subscription_transferred (sub_at id s.subs) (given_sub id to s)) (nothing s)
     (told_same id to s) (same_now s s refl)
 
-transfer_same : (session id : ℕ) (s : ServerState) → SameKept s (transfer_one session id s).state
+pub transfer_same : (session id : ℕ) (s : ServerState) → SameKept s (transfer_one session id s).state
 unfolding transfer_one
 transfer_same session id s = transferred_same id session s
 

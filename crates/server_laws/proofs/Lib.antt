@@ -28,3 +28,12 @@ mod Keeping
 mod Whole
 mod Chaining
 mod Putting
+mod Granting
+mod Lasting
+mod Beginning
+mod Setting
+mod Making
+mod Bounding
+mod Numbering
+mod Holding
+mod Giving

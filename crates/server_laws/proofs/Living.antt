@@ -11,7 +11,7 @@ use Rattle.server_rules.specs.Step.{Happening, Opens, Hears, Closes, Feeds, Tick
 use Rattle.server_rules.specs.Acts.{Put, ServerAct, acts, first_act, history, state_after}
 use Rattle.server_laws.specs.Moves.{Acknowledges, Adds, Answers, AreFair, Asks, Core, Cycles, Does, Doing, Enables, Ends, Enters, Goes, Issues, Makes, Modes, Modifies, Move, Removes, Repeats, Sends, facts_of_all, feeds_in, moved_all}
 use Rattle.server_laws.specs.Facts.{IsWithin, facts_said}
-use Rattle.server_laws.specs.Course.{AreAsked, Feeding, IsAsked, IsAskedDoing, IsAskedMove, IsCourse, Issuing, Leave, MayDo, MayMove, MayMoves, MaySet, Nothing, Reading, Repeating, Setting, core_of, fed_in, fed_with_one, leave_of, said_after, said_by, said_in}
+use Rattle.server_laws.specs.Course.{Adding, AreAsked, Feeding, IsAsked, IsAskedDoing, IsAskedMove, IsCourse, Issuing, Leave, MayDo, MayMove, MayMoves, MaySet, Nothing, Reading, Repeating, Setting, Transferring, core_of, fed_in, fed_with_one, leave_of, said_after, said_by, said_in}
 use Rattle.server_laws.specs.Lives.{Stands, Unborn, life_after}
 use Rattle.server_laws.proofs.Coming.{facts_join, fair_join, moved_join, said_join}
 use Rattle.server_laws.proofs.Feeding.{FeedsNone, feeds_join, feeds_none, heard_none}
@@ -39,6 +39,8 @@ set_asked : (happening : Happening) (earlier : List Happening) (leave : Leave) (
     → IsAsked (happening ∷ earlier) id mode
 set_asked happening earlier (Setting other that) id mode is may = inl (is ∙ ap (λ n. Setting n that) may.0 ∙ ap (Setting id) may.1)
 set_asked happening earlier Nothing id mode is may = absurd may
+set_asked happening earlier (Adding other) id mode is may = absurd may
+set_asked happening earlier (Transferring ids) id mode is may = absurd may
 set_asked happening earlier Reading id mode is may = absurd may
 set_asked happening earlier (Repeating other number) id mode is may = absurd may
 set_asked happening earlier Issuing id mode is may = absurd may
@@ -67,7 +69,7 @@ move_asked happening earlier leave Issues is may = tt
 move_asked happening earlier leave (Repeats id number) is may = tt
 move_asked happening earlier leave (Answers answer) is may = tt
 
-may_asked : (happening : Happening) (earlier : List Happening) (leave : Leave) (moves : List Move) → leave_of happening ≡ leave → MayMoves leave moves
+pub may_asked : (happening : Happening) (earlier : List Happening) (leave : Leave) (moves : List Move) → leave_of happening ≡ leave → MayMoves leave moves
     → AreAsked (happening ∷ earlier) moves
 may_asked happening earlier leave [] is may = tt
 may_asked happening earlier leave (move ∷ moves) is may = (move_asked happening earlier leave move is may.0, may_asked happening earlier leave moves is may.1)
@@ -93,11 +95,11 @@ later_move happening earlier Issues h = tt
 later_move happening earlier (Repeats id number) h = tt
 later_move happening earlier (Answers answer) h = tt
 
-asked_later : (happening : Happening) (earlier : List Happening) (moves : List Move) → AreAsked earlier moves → AreAsked (happening ∷ earlier) moves
+pub asked_later : (happening : Happening) (earlier : List Happening) (moves : List Move) → AreAsked earlier moves → AreAsked (happening ∷ earlier) moves
 asked_later happening earlier [] h = tt
 asked_later happening earlier (move ∷ moves) h = (later_move happening earlier move h.0, asked_later happening earlier moves h.1)
 
-asked_join : (happenings : List Happening) (one other : List Move) → AreAsked happenings one → AreAsked happenings other → AreAsked happenings (one ++ other)
+pub asked_join : (happenings : List Happening) (one other : List Move) → AreAsked happenings one → AreAsked happenings other → AreAsked happenings (one ++ other)
 asked_join happenings [] other h rest = rest
 asked_join happenings (move ∷ one) other h rest = (h.0, asked_join happenings one other h.1 rest)
 
@@ -120,7 +122,7 @@ step (Feeds change) s = fed_step change s
 step (Ticks ms) s = unfed (Ticks ms) s (λ change h. h) refl
 step (Levels level) s = unfed (Levels level) s (λ change h. h) refl
 
-fed_more : (changes : List Change) (happening : Happening) → fed_with_one changes happening ≡ changes ++ fed_with_one [] happening
+pub fed_more : (changes : List Change) (happening : Happening) → fed_with_one changes happening ≡ changes ++ fed_with_one [] happening
 fed_more changes (Opens number) = sym (append-nil changes)
 fed_more changes (Hears number h) = sym (append-nil changes)
 fed_more changes (Closes number) = sym (append-nil changes)

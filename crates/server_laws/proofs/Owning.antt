@@ -11,7 +11,8 @@ use Rattle.server_rules.specs.Said.{Did, nothing}
 use Rattle.server_rules.specs.Answering.{faulted}
 use Rattle.server_rules.specs.Moves.{answered_by, answered_queued, answered_within, deleted, expired_sub, given_sub, gone, has_notice, has_subs, left, left_by, noticed, noticed_of, notice_response, notice_of, oldest_notice, oldest_waiting, other_than, owner, publish_reply, queued, released, served, served_by, served_if, served_within, told, told_notice, told_why, transferred_sub, unqueued, without_oldest_notice}
 use Rattle.server_laws.specs.Moves.{Asks, Does, Ends, Goes}
-use Rattle.server_laws.specs.Course.{Comes, Leave, core_of}
+use Rattle.server_laws.specs.Course.{Comes, Leave, MayTransfer, core_of}
+use Rattle.server_laws.proofs.Finding.{gone_here}
 use Rattle.server_laws.proofs.Coming.{begun_by, either, from_same, idle, then_comes}
 use Rattle.server_laws.proofs.Replying.{fault_comes, quiet}
 
@@ -88,7 +89,7 @@ left_comes leave session s =
 pub gone_from : (leave : Leave) (id : ℕ) (s : ServerState) → From leave s (gone id s)
 gone_from leave id s did h =
     begun_by leave (Ends id) s (record s { subs = without_sub id s.subs }) did tt tt refl
-    (begun_by leave (Asks (Disown id)) (record s { subs = without_sub id s.subs }) (gone id s) did tt tt refl h)
+    (begun_by leave (Asks (Disown id)) (record s { subs = without_sub id s.subs }) (gone id s) did tt (gone_here id s.subs) refl h)
 
 left_by_comes : (leave : Leave) (session : Option ℕ) (s : ServerState) → Comes leave s (left_by session s)
 left_by_comes leave None s = idle leave s
@@ -106,7 +107,7 @@ noticed_of_same : (sub : Option SubState) (session code : ℕ) (s : ServerState)
 noticed_of_same None session code s = refl
 noticed_of_same (Some sub) session code s = noticed_same (notice_of session code sub) s
 
-told_why_comes : (leave : Leave) (session : Option ℕ) (code : ℕ) (sub : Option SubState) (s : ServerState) → Comes leave s (told_why session code sub s)
+pub told_why_comes : (leave : Leave) (session : Option ℕ) (code : ℕ) (sub : Option SubState) (s : ServerState) → Comes leave s (told_why session code sub s)
 told_why_comes leave None code sub s = idle leave s
 told_why_comes leave (Some session) code sub s =
     from_same leave s (noticed_of sub session code s) _ (noticed_of_same sub session code s) (left_comes leave session (noticed_of sub session code s))
@@ -115,15 +116,15 @@ pub expired_comes : (leave : Leave) (id : ℕ) (s : ServerState) → Comes leave
 unfolding expired_sub
 expired_comes leave id s = gone_from leave id s _ (told_why_comes leave (owner id s) bad_timeout (sub_at id s.subs) (gone id s))
 
-given_from : (leave : Leave) (id to : ℕ) (s : ServerState) → From leave s (given_sub id to s)
-given_from leave id to s did h =
+given_from : (leave : Leave) (id to : ℕ) (s : ServerState) → MayTransfer leave id → From leave s (given_sub id to s)
+given_from leave id to s may did h =
     begun_by leave (Does id Goes) s (with_sub id taken_over s) did tt tt refl
-    (begun_by leave (Asks (Transfer id to)) (with_sub id taken_over s) (given_sub id to s) did tt tt refl h)
+    (begun_by leave (Asks (Transfer id to)) (with_sub id taken_over s) (given_sub id to s) did may tt refl h)
 
-pub transferred_comes : (leave : Leave) (id to : ℕ) (s : ServerState) → Comes leave s (transferred_sub id to s)
+pub transferred_comes : (leave : Leave) (id to : ℕ) (s : ServerState) → MayTransfer leave id → Comes leave s (transferred_sub id to s)
 unfolding transferred_sub
-transferred_comes leave id to s =
+transferred_comes leave id to s may =
     either leave (may_transfer id to s.sessions) s _ _
-    (given_from leave id to s _
+    (given_from leave id to s may _
     (told_why_comes leave (other_than to (owner id s)) good_subscription_transferred (sub_at id s.subs) (given_sub id to s)))
     (idle leave s)

@@ -1,5 +1,5 @@
 -- One message is put where one is answered.
-use Rattle.std.proofs.Common.{◌≡◌, ℕ, List, [], ◌∷◌, Bool, true, false, cond, not, Option, Some, None, refl, sym, ap, ◌∙◌, subst}
+use Rattle.std.proofs.Common.{◌≡◌, ℕ, List, Bool, true, false, cond, not, Option, Some, None, refl, subst}
 use Rattle.std.specs.Prelude.{Result, Ok, Err}
 use Rattle.ua_base.specs.Number.{after_message}
 use Rattle.ua_base.specs.Status.{bad_decoding_error, bad_response_too_large, bad_security_policy_rejected, bad_sequence_number_invalid, bad_tcp_message_too_large, bad_tcp_secure_channel_unknown}
@@ -19,11 +19,11 @@ use Rattle.server_rules.specs.declared.opening.OpeningRequest.{OpeningRequest}
 use Rattle.server_rules.specs.declared.opening.SecurityTokenRequestType.{SecurityTokenRequestType}
 use Rattle.server_rules.specs.declared.opening.SecurityTokenRequestType.TheVariants as request_type
 use Rattle.server_rules.specs.State.{ServerState, conn_at}
-use Rattle.server_rules.specs.Said.{Acknowledged, Did, Opened, Refused, Replied, Said, nothing}
+use Rattle.server_rules.specs.Said.{Acknowledged, Did, Opened, Refused, Replied, nothing}
 use Rattle.server_rules.specs.Answering.{fault_reply, refused_on, replied, replied_on, replied_to, replied_within, said_on, takes}
 use Rattle.server_rules.specs.Opening.{asked_at, granted, granted_on, is_unsecured, issued, opened_as, opened_by, opened_for, opening, opening_reply, opening_response, security_mode_of, token_renewed, with_channel, with_next_channel}
 use Rattle.server_rules.specs.Connecting.{acknowledged, acknowledgement, greeted_by, greeting, hears, hears_by, hears_on, is_small}
-use Rattle.server_rules.specs.Step.{Happening, Hears, after, ear_of, ears, heard}
+use Rattle.server_rules.specs.Step.{Hears, after, ear_of, ears, heard}
 use Rattle.server_laws.specs.Lockstep.{IsOnePut, IsOpening}
 use Rattle.server_laws.proofs.Silent.{found_conn}
 

@@ -53,7 +53,7 @@ use Rattle.server_rules.specs.Moves.{has_notice, has_subs, oldest_waiting, owns,
 use Rattle.server_rules.specs.Publishing.{ack_results, acked, all_acked, driven_out, enqueued, first_of, late_sub, parked_of, publish, queued_on, sent, sent_on, taken, taken_by, turned, used, waiting_with}
 use Rattle.server_rules.specs.Opening.{asked_at, granted, granted_on, is_unsecured, issued, opened_as, opened_by, opened_for, opening, opening_reply, opening_response, security_mode_of, token_renewed, with_channel, with_next_channel}
 use Rattle.server_rules.specs.Requests.{asked, asker_of, done_for, noted, requested, served, sub_served, token_in}
-use Rattle.server_rules.specs.Connecting.{acknowledged as welcomed, greeted, closed, closed_by, closing, greeted_by, greeting, hears, hears_by, hears_on, is_above, is_small, opened, with_new_conn, without_conn}
+use Rattle.server_rules.specs.Connecting.{acknowledged as welcomed, greeted, closed, closed_by, closing, greeted_by, greeting, hears, hears_by, hears_on, is_above, is_small, opened, with_new_conn}
 use Rattle.server_rules.specs.Step.{Happening, Opens, Hears, Closes, Feeds, Ticks, Levels, after, ear_of, ears, fed, heard, leveled}
 use Rattle.server_laws.specs.Lockstep.{AllWait, IsAtOnceOf, IsFault, IsReplied, MayHear, SaysOn, WaitsOn, IsGoodFor, IsTold}
 use Rattle.server_laws.proofs.Serving.{Row, fault_row, served_row, KeptRow}
@@ -124,14 +124,14 @@ all_acked_same : (session : ℕ) (acks : List SubscriptionAcknowledgement) (s : 
 all_acked_same session [] s = refl
 all_acked_same session (ack ∷ acks) s = all_acked_same session acks (acked session ack s) ∙ acked_same session ack s
 
-acked_conns : (session : ℕ) (ack : SubscriptionAcknowledgement) (s : ServerState) → (acked session ack s).conns ≡ s.conns
+acked_conns : (session : ℕ) (ack : SubscriptionAcknowledgement) (s : ServerState) → numbers_of (acked session ack s) ≡ numbers_of s
 acked_conns session ack s = by_owner (owns session ack.subscription_id s)
   where
-    by_owner : (b : Bool) → (cond b (with_sub ack.subscription_id (acknowledged ack.sequence_number) s) s).conns ≡ s.conns
+    by_owner : (b : Bool) → numbers_of (cond b (with_sub ack.subscription_id (acknowledged ack.sequence_number) s) s) ≡ numbers_of s
     by_owner true = refl
     by_owner false = refl
 
-all_acked_conns : (session : ℕ) (acks : List SubscriptionAcknowledgement) (s : ServerState) → (all_acked session acks s).conns ≡ s.conns
+all_acked_conns : (session : ℕ) (acks : List SubscriptionAcknowledgement) (s : ServerState) → numbers_of (all_acked session acks s) ≡ numbers_of s
 all_acked_conns session [] s = refl
 all_acked_conns session (ack ∷ acks) s = all_acked_conns session acks (acked session ack s) ∙ acked_conns session ack s
 
@@ -205,18 +205,18 @@ publish_tells : (P : ℕ → Type 0) (asker : Asker) (session : ℕ) (r : Publis
 unfolding publish
 publish_tells P asker session r s p bound =
     either_tells P (nat_lt 1000 (length r.subscription_acknowledgements)) s _ _ (fault_tells P asker bad_too_many_operations s p)
-    (from_tells P s (all_acked session r.subscription_acknowledgements s) _ (ap (map (λ (conn : Conn). conn.number)) (all_acked_conns session r.subscription_acknowledgements s))
+    (from_tells P s (all_acked session r.subscription_acknowledgements s) _ (all_acked_conns session r.subscription_acknowledgements s)
     (λ h. subst (λ sessions. AllWait P sessions.sessions) (sym (all_acked_same session r.subscription_acknowledgements s)) h)
     (taken_tells P (waiting_with asker (ack_results session r.subscription_acknowledgements s)) session (all_acked session r.subscription_acknowledgements s) p
     (subst (λ sessions. BoundOn P session sessions.sessions) (sym (all_acked_same session r.subscription_acknowledgements s)) bound)))
 
 -- ---- a session that is checked is bound to the connection
 
-record IsChecked (conn session : ℕ) (found : Option Session) : Type 0 where
-  x : Session
-  is : found ≡ Some x
-  counter : x.counter ≡ session
-  bound : is_bound_to conn x ≡ true
+pub record IsChecked (conn session : ℕ) (found : Option Session) : Type 0 where
+  pub x : Session
+  pub is : found ≡ Some x
+  pub counter : x.counter ≡ session
+  pub bound : is_bound_to conn x ≡ true
 
 check_by : (bound activated : Bool) (conn session : ℕ) (x : Session) → is_bound_to conn x ≡ bound
     → cond bound (cond activated (Ok x.counter) (Err bad_session_not_activated)) (Err bad_secure_channel_id_invalid) ≡ Ok session → IsChecked conn session (Some x)
@@ -224,7 +224,7 @@ check_by true true conn session x test is = record { x = x; is = refl; counter =
 check_by true false conn session x test is = absurd cc
 check_by false activated conn session x test is = absurd cc
 
-checked : (conn session : ℕ) (found : Option Session) → table.answer_of bad_session_id_invalid (one.check_answer conn) found ≡ Ok session → IsChecked conn session found
+pub checked : (conn session : ℕ) (found : Option Session) → table.answer_of bad_session_id_invalid (one.check_answer conn) found ≡ Ok session → IsChecked conn session found
 checked conn session None is = absurd cc
 checked conn session (Some x) is = check_by (is_bound_to conn x) x.activated conn session x refl is
 
@@ -246,7 +246,7 @@ first_by false boot token y x rest numbered test is on = by_counter (y.counter =
         absurd cc
     by_counter false own = (ap (λ b. cond b (Some y) numbered) own ∙ (on is).0, (on is).1)
 
-first_of_token : (boot : ℕ) (token : Option (List ℕ)) (sessions : List Session) (x : Session) → find (has_token boot token) sessions ≡ Some x
+pub first_of_token : (boot : ℕ) (token : Option (List ℕ)) (sessions : List Session) (x : Session) → find (has_token boot token) sessions ≡ Some x
     → (session_at x.counter sessions ≡ Some x) × (has_token boot token x ≡ true)
 first_of_token boot token [] x is = absurd cc
 first_of_token boot token (y ∷ sessions) x is =
@@ -422,7 +422,7 @@ hears_by_tells : (P : ℕ → Type 0) (number : ℕ) (found : Option Conn) (h : 
 hears_by_tells P number None h s is p = idle_tells P s
 hears_by_tells P number (Some conn) h s is p = hears_on_tells P h conn s (subst P (sym (found_conn number s.conns conn is)) p)
 
-heard_tells : (P : ℕ → Type 0) (number : ℕ) (h : Heard) (s : ServerState) → P number → Tells P s (heard number h s)
+pub heard_tells : (P : ℕ → Type 0) (number : ℕ) (h : Heard) (s : ServerState) → P number → Tells P s (heard number h s)
 unfolding heard hears
 heard_tells P number h s p =
     either_tells P (is_deaf (ears number s)) s _ _ (idle_tells P s) (hears_by_tells P number (conn_at number s.conns) h s refl p)
@@ -446,11 +446,11 @@ closed_told : (P : ℕ → Type 0) (number : ℕ) (s : ServerState) → AllWait 
 unfolding closed
 closed_told P number s h = closed_by_told P (conn_at number s.conns) number s h
 
-fed_tells : (P : ℕ → Type 0) (change : Change) (s : ServerState) → Tells P s (fed change s)
+pub fed_tells : (P : ℕ → Type 0) (change : Change) (s : ServerState) → Tells P s (fed change s)
 unfolding fed
 fed_tells P change s h = record { told = record { on = tt; waits = h }; numbers = refl }
 
-leveled_tells : (P : ℕ → Type 0) (level : ℕ) (s : ServerState) → Tells P s (leveled level s)
+pub leveled_tells : (P : ℕ → Type 0) (level : ℕ) (s : ServerState) → Tells P s (leveled level s)
 unfolding leveled
 leveled_tells P level s h = record { told = record { on = tt; waits = h }; numbers = refl }
 
@@ -492,7 +492,7 @@ there_by false number x y c rest others test same on is =
     let more = on is in
     (more.0, ap (λ b. cond b (Some x) rest) own ∙ more.1)
 
-there : (number : ℕ) (conns others : List Conn) (c : Conn) → map (λ (conn : Conn). conn.number) conns ≡ map (λ (conn : Conn). conn.number) others
+pub there : (number : ℕ) (conns others : List Conn) (c : Conn) → map (λ (conn : Conn). conn.number) conns ≡ map (λ (conn : Conn). conn.number) others
     → conn_at number others ≡ Some c → (d : Conn) × (conn_at number conns ≡ Some d)
 there number conns [] c same is = absurd cc
 there number [] (y ∷ others) c same is = absurd cc
@@ -504,7 +504,7 @@ there number (x ∷ conns) (y ∷ others) c same is =
 row_replied : (P : ℕ → Type 0) (conn number handle : ℕ) (r : Result Request RequestFault) (s : ServerState) (did : Did) (c : Conn) → conn_at conn s.conns ≡ Some c
     → KeptRow P (asker_of conn number handle) (IsGoodFor r s.subs) s did → IsReplied P conn number r s did
 row_replied P conn number handle r s did c is kept =
-    record { handle = handle; answered = kept.answered; there = there conn kept.answered.from.conns s.conns c kept.from_numbers is }
+    record { handle = handle; answered = kept.answered; there = there conn kept.answered.from.conns s.conns c (ap (λ (numbers : Option ℕ × List ℕ). numbers.1) kept.from_numbers) is }
 
 asked_row : (P : ℕ → Type 0) (conn number : ℕ) (r : Result Request RequestFault) (s : ServerState) (c : Conn) → conn_at conn s.conns ≡ Some c
     → (r ≡ Err faults.OutOfMemory → ⊥) → IsAtOnceOf r → AllWait P s.sessions.sessions → IsReplied P conn number r s (asked conn number r s)

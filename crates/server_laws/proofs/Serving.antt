@@ -46,7 +46,6 @@ use Rattle.subscription.specs.declared.spec.SubSpec.{SubSpec}
 use Rattle.subscription.specs.Calls.{modified}
 use Rattle.subscription.specs.State.{SubState}
 use Rattle.server_rules.specs.declared.conn.Asker.{Asker}
-use Rattle.server_rules.specs.declared.conn.Conn.{Conn}
 use Rattle.server_rules.specs.State.{ServerState, with_sub}
 use Rattle.server_rules.specs.Said.{Did, and_then, each}
 use Rattle.server_rules.specs.Answering.{fault_reply, faulted, good_header, replied}
@@ -117,7 +116,7 @@ behind P asker Good s rule did first later h =
       from_numbers = other.from_numbers ∙ one.numbers;
     }
 
-from_row : (P : ℕ → Type 0) (asker : Asker) (Good : Reply → Type 0) (s before : ServerState) (did : Did) → numbers_of before ≡ numbers_of s
+pub from_row : (P : ℕ → Type 0) (asker : Asker) (Good : Reply → Type 0) (s before : ServerState) (did : Did) → numbers_of before ≡ numbers_of s
     → (AllWait P s.sessions.sessions → AllWait P before.sessions.sessions) → Row P asker Good before did → Row P asker Good s did
 from_row P asker Good s before did same on row h =
     let one = row (on h) in record { answered = one.answered; numbers = one.numbers ∙ same; from_numbers = one.from_numbers ∙ same }
@@ -132,10 +131,10 @@ done_row : {A : Type 0} (P : ℕ → Type 0) (asker : Asker) (Good : Reply → T
 done_row P asker Good rule (Ok found) s fine on = on found
 done_row P asker Good rule (Err code) s fine on = fault_row P asker Good code s fine
 
--- the sessions and the connections are as they were
+-- the sessions and the connections' numbers are as they were
 pub record Calm (after before : ServerState) : Type 0 where
   pub sessions : after.sessions ≡ before.sessions
-  pub conns : after.conns ≡ before.conns
+  pub conns : numbers_of after ≡ numbers_of before
 
 -- an answer after steps that leave them
 stepped : {A : Type 0} (step : A → ServerState → ServerState) (list : List A) (s : ServerState) → ((x : A) (t : ServerState) → Calm (step x t) t)
@@ -150,7 +149,7 @@ after_steps : {A : Type 0} (P : ℕ → Type 0) (asker : Asker) (Good : Reply �
     → ((x : A) (t : ServerState) → Calm (step x t) t) → Good answer → Row P asker Good s (replied asker answer (after_each step list s))
 after_steps P asker Good step list s answer on good =
     let calm = stepped step list s on in
-    single P asker Good s (after_each step list s) answer (ap (map (λ (conn : Conn). conn.number)) calm.conns)
+    single P asker Good s (after_each step list s) answer calm.conns
     (λ h. subst (λ sessions. AllWait P sessions.sessions) (sym calm.sessions) h) good
 
 -- ---- what is good
@@ -265,7 +264,7 @@ republish_row P asker session r subs s =
     (λ message. single P asker (IsGood (request.Subscription (sub_request.Republish r)) subs) s s (republished_reply message (good_header asker.handle s)) refl (λ h. h) (inl refl, tt))
 
 -- rules in turn, and an answer behind them
-all_row : (P : ℕ → Type 0) (asker : Asker) (Good : Reply → Type 0) (answer : ResponseHeader → Reply) (rule : ℕ → ServerState → Did) (ids : List ℕ) (s : ServerState)
+pub all_row : (P : ℕ → Type 0) (asker : Asker) (Good : Reply → Type 0) (answer : ResponseHeader → Reply) (rule : ℕ → ServerState → Did) (ids : List ℕ) (s : ServerState)
     → ((id : ℕ) (t : ServerState) → Tells P t (rule id t)) → ((header : ResponseHeader) → Good (answer header))
     → Row P asker Good s (and_then (answered asker answer) (each rule ids s))
 all_row P asker Good answer rule ids s on good =
@@ -273,7 +272,7 @@ all_row P asker Good answer rule ids s on good =
     (single P asker Good (each rule ids s).state (each rule ids s).state (answer (good_header asker.handle (each rule ids s).state)) refl (λ h. h)
     (good (good_header asker.handle (each rule ids s).state)))
 
-transfer_tells : (P : ℕ → Type 0) (session id : ℕ) (s : ServerState) → Tells P s (transfer_one session id s)
+pub transfer_tells : (P : ℕ → Type 0) (session id : ℕ) (s : ServerState) → Tells P s (transfer_one session id s)
 unfolding transfer_one
 transfer_tells P session id s = transferred_tells P id session s
 
@@ -405,11 +404,11 @@ without_owned_same : (deletes : Bool) (session : ℕ) (s : ServerState) → (wit
 without_owned_same true session s = all_gone_same (ids_of (own_subs session s)) s
 without_owned_same false session s = refl
 
-all_gone_conns : (ids : List ℕ) (s : ServerState) → (all_gone ids s).conns ≡ s.conns
+all_gone_conns : (ids : List ℕ) (s : ServerState) → numbers_of (all_gone ids s) ≡ numbers_of s
 all_gone_conns [] s = refl
 all_gone_conns (id ∷ ids) s = all_gone_conns ids (gone id s)
 
-without_owned_conns : (deletes : Bool) (session : ℕ) (s : ServerState) → (without_owned deletes session s).conns ≡ s.conns
+without_owned_conns : (deletes : Bool) (session : ℕ) (s : ServerState) → numbers_of (without_owned deletes session s) ≡ numbers_of s
 without_owned_conns true session s = all_gone_conns (ids_of (own_subs session s)) s
 without_owned_conns false session s = refl
 
@@ -419,7 +418,7 @@ unfolding session_closed close_answered
 session_closed_row P asker Good deletes session s good =
     let after : ServerState = without_session session (without_owned deletes session s) in
     single P asker Good s after (reply.Session (session_reply.CloseSession (good_header asker.handle after)))
-    (ap (map (λ (conn : Conn). conn.number)) (without_owned_conns deletes session s))
+    (without_owned_conns deletes session s)
     (λ h. filter_waits P (λ one. not (is_numbered session one)) (without_owned deletes session s).sessions.sessions
     (subst (AllWait P) (sym (without_owned_same deletes session s)) h))
     (good (good_header asker.handle after))
@@ -435,7 +434,7 @@ close_session_row P asker session r subs s =
 
 -- ---- requests
 
-noted_waits : (P : ℕ → Type 0) (asker : Asker) (token : Option (List ℕ)) (s : ServerState) → AllWait P s.sessions.sessions → AllWait P (noted asker token s).sessions.sessions
+pub noted_waits : (P : ℕ → Type 0) (asker : Asker) (token : Option (List ℕ)) (s : ServerState) → AllWait P s.sessions.sessions → AllWait P (noted asker token s).sessions.sessions
 noted_waits P asker token s h = first_waits P (has_token s.sessions.boot token) (one.requested asker.conn s.age) s.sessions.sessions (requested_waits P asker.conn s.age) h
 
 done_for_row : (P : ℕ → Type 0) (asker : Asker) (Good : Reply → Type 0) (row : ℕ → ServerState → Did) (answer : Result ℕ ℕ) (s : ServerState) → Fine Good

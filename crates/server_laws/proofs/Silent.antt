@@ -25,9 +25,9 @@ use Rattle.server_laws.proofs.Waiting.{filter_waits, first_waits, oldest_waits, 
 
 -- ---- what is said on a connection
 
--- the numbers of its connections
-abbrev pub numbers_of : ServerState → List ℕ
-numbers_of s = map (λ conn. conn.number) s.conns
+-- the highest number of a connection that was opened, and the numbers of those that are there
+abbrev pub numbers_of : ServerState → Option ℕ × List ℕ
+numbers_of s = (s.highest, map (λ conn. conn.number) s.conns)
 
 pub record Spoken (P : ℕ → Type 0) (s : ServerState) (did : Did) : Type 0 where
   pub same : did.state.sessions ≡ s.sessions
@@ -59,7 +59,7 @@ renewed_numbers conn (other ∷ conns) =
     numbers_by (is_conn conn.number other) conn other (map (λ one. one.number) (map (renewed_conn conn) conns)) (map (λ one. one.number) conns) refl (renewed_numbers conn conns)
 
 pub with_numbers : (conn : Conn) (s : ServerState) → numbers_of (with_conn conn s) ≡ numbers_of s
-with_numbers conn s = renewed_numbers conn s.conns
+with_numbers conn s = ap (λ numbers. (s.highest, numbers)) (renewed_numbers conn s.conns)
 
 spoken_either : (P : ℕ → Type 0) (b : Bool) (s : ServerState) (first other : Did) → Spoken P s first → Spoken P s other → Spoken P s (cond b first other)
 spoken_either P true s first other h rest = h
@@ -316,7 +316,7 @@ cycle_of_tells P (Some sub) id s =
     from_tells P s (with_sub id (cycled (is_served id s)) s) _ refl (λ h. h)
     (by_row_tells P (row_of (is_served id s) sub) id (with_sub id (cycled (is_served id s)) s))
 
-cycle_tells : (P : ℕ → Type 0) (id : ℕ) (s : ServerState) → Tells P s (cycle id s)
+pub cycle_tells : (P : ℕ → Type 0) (id : ℕ) (s : ServerState) → Tells P s (cycle id s)
 unfolding cycle
 cycle_tells P id s = cycle_of_tells P (sub_at id s.subs) id s
 
@@ -328,7 +328,7 @@ moment_tells P s =
     (from_tells P cycles.state (sessions_expired cycles.state) _ refl (λ h. filter_waits P (lasts_past cycles.state.age) cycles.state.sessions.sessions h)
     (idle_tells P (sessions_expired cycles.state)))
 
-millisecond_tells : (P : ℕ → Type 0) (s : ServerState) → Tells P s (millisecond s)
+pub millisecond_tells : (P : ℕ → Type 0) (s : ServerState) → Tells P s (millisecond s)
 unfolding millisecond
 millisecond_tells P s =
     either_tells P (s.age == 2 ^ 64 - 1) s _ _ (idle_tells P s)

@@ -2,6 +2,7 @@
 use Rattle.std.specs.Prelude.{◌≡◌, ℕ, List, [], ◌∷◌, ◌++◌, ◌⊎◌, Option, Some, Result, Ok}
 use Rattle.ua_base.specs.declared.modes.Mode.{Mode}
 use Rattle.set_model.specs.declared.source.Change.{Change}
+use Rattle.sessions.specs.Calls.{Call as SessionCall, Transfer}
 use Rattle.ua_channel.specs.declared.heard.Heard.{Heard}
 use Rattle.ua_channel.specs.declared.heard.Heard.TheVariants as heard
 use Rattle.ua_session_msgs.specs.declared.request.SessionRequest.{SessionRequest}
@@ -25,15 +26,22 @@ abbrev pub core_of : ServerState → Core
 core_of s =
     record { boot = s.config.boot; current = s.current; subs = s.subs; made = s.made; channels = s.channels_given; sessions = s.sessions }
 
--- what may be done, beside what any request may do: a mode is set in a subscription, nodes are read, the message of a
--- subscription and a number is said again, a channel is issued, or a change is fed
+-- what may be done, beside what any request may do: items are made in a subscription, or a mode is set, subscriptions of
+-- these ids go to another session, nodes are read, the message of a subscription and a number is said again, a channel is
+-- issued, or a change is fed
 pub data Leave : Type 0 where
   Nothing : Leave
+  Adding : ℕ → Leave
   Setting : ℕ → Option Mode → Leave
+  Transferring : List ℕ → Leave
   Reading : Leave
   Repeating : ℕ → ℕ → Leave
   Issuing : Leave
   Feeding : Change → Leave
+
+abbrev pub MayAdd : Leave → ℕ → Type 0
+MayAdd (Adding other) id = other ≡ id
+MayAdd leave id = ⊥
 
 abbrev pub MaySet : Leave → ℕ → Mode → Type 0
 MaySet (Setting other that) id mode = (other ≡ id) × (that ≡ Some mode)
@@ -49,6 +57,18 @@ abbrev pub MayRepeat : Leave → ℕ → ℕ → Type 0
 MayRepeat (Repeating other that) id number = (other ≡ id) × (that ≡ number)
 MayRepeat leave id number = ⊥
 
+abbrev pub IsAmong : ℕ → List ℕ → Type 0
+IsAmong id [] = ⊥
+IsAmong id (other ∷ ids) = (other ≡ id) ⊎ IsAmong id ids
+
+abbrev pub MayTransfer : Leave → ℕ → Type 0
+MayTransfer (Transferring ids) id = IsAmong id ids
+MayTransfer leave id = ⊥
+
+abbrev pub MayAsk : Leave → SessionCall → Type 0
+MayAsk leave (Transfer id to) = MayTransfer leave id
+MayAsk leave other = Unit {0}
+
 abbrev pub MayIssue : Leave → Type 0
 MayIssue Issuing = Unit {0}
 MayIssue leave = ⊥
@@ -59,7 +79,7 @@ MayFeed leave change = ⊥
 
 abbrev pub MayDo : Leave → ℕ → Doing → Type 0
 MayDo leave id (Modes item mode) = MaySet leave id mode
-MayDo leave id (Adds spec) = Unit {0}
+MayDo leave id (Adds spec) = MayAdd leave id
 MayDo leave id (Removes item) = Unit {0}
 MayDo leave id (Cycles queued) = Unit {0}
 MayDo leave id (Sends now) = Unit {0}
@@ -73,7 +93,7 @@ MayMove leave (Makes spec start) = Unit {0}
 MayMove leave (Does id doing) = MayDo leave id doing
 MayMove leave (Enters change) = MayFeed leave change
 MayMove leave (Ends id) = Unit {0}
-MayMove leave (Asks call) = Unit {0}
+MayMove leave (Asks call) = MayAsk leave call
 MayMove leave Issues = MayIssue leave
 MayMove leave (Repeats id number) = MayRepeat leave id number
 MayMove leave (Answers answer) = MayAnswer leave answer
@@ -94,7 +114,9 @@ pub record Comes (leave : Leave) (s : ServerState) (did : Did) : Type 0 where
 -- ---- of what happens
 
 abbrev pub leave_of_sub : SubRequest → Leave
+leave_of_sub (sub_request.CreateMonitoredItems r) = Adding r.subscription_id
 leave_of_sub (sub_request.SetMonitoringMode r) = Setting r.subscription_id (mode_named r.monitoring_mode)
+leave_of_sub (sub_request.TransferSubscriptions r) = Transferring r.subscription_ids
 leave_of_sub (sub_request.Republish r) = Repeating r.subscription_id r.retransmit_sequence_number
 leave_of_sub other = Nothing
 

@@ -7,3 +7,8 @@ pub mod Neighbours
 pub mod Counted
 pub mod Lockstep
 pub mod Whole
+pub mod Beginning
+pub mod Opened
+pub mod Bounded
+pub mod Numbers
+pub mod Owners

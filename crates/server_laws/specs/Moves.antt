@@ -6,7 +6,7 @@ use Rattle.set_model.specs.declared.source.Change.{Change}
 use Rattle.set_model.specs.Source.{last_of}
 use Rattle.redundancy_nodes.specs.Current.{with_newest}
 use Rattle.sessions.specs.State.{SessionsState}
-use Rattle.sessions.specs.Calls.{Call as SessionCall, after_call, given_by}
+use Rattle.sessions.specs.Calls.{Call as SessionCall, Disown, after_call, given_by}
 use Rattle.sessions.specs.Token.{token_of}
 use Rattle.retransmit.specs.Kept.{message_of}
 use Rattle.ua_sub_msgs.specs.declared.notification.NotificationMessage.{NotificationMessage}
@@ -129,13 +129,18 @@ IsFairly (Modifies spec now) = Unit {0}
 IsFairly (Enables enabled) = Unit {0}
 IsFairly Goes = Unit {0}
 
+-- nothing is kept of the owner of a subscription that is no more
+abbrev pub IsFairAsk : SessionCall → Core → Type 0
+IsFairAsk (Disown id) c = sub_at id c.subs ≡ None
+IsFairAsk other c = Unit {0}
+
 -- a new subscription has the next id
 abbrev pub IsFair : Move → Core → Type 0
 IsFair (Makes spec start) c = (spec.id ≡ id_of c.boot (c.made + 1)) × (c.made < 65535)
 IsFair (Does id doing) c = IsFairly doing
 IsFair (Enters change) c = Unit {0}
 IsFair (Ends id) c = Unit {0}
-IsFair (Asks call) c = Unit {0}
+IsFair (Asks call) c = IsFairAsk call c
 IsFair Issues c = Unit {0}
 IsFair (Repeats id number) c = Unit {0}
 IsFair (Answers answer) c = Unit {0}

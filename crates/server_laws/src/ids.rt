@@ -3,11 +3,14 @@ ghost use Rattle.std.specs.Prelude.{◌≡◌, ◌<◌, ◌∷◌, ◌*◌, ◌+
 ghost use Rattle.ua_base.specs.Number.{after_message};
 ghost use Rattle.set_model.specs.declared.source.Change.{Change};
 ghost use Rattle.sessions.specs.Token.{token_of};
+ghost use Rattle.ua_session_msgs.specs.declared.channel.OpenSecureChannelResponse.{OpenSecureChannelResponse};
 ghost use Rattle.server_rules.specs.declared.config.ServerConfig.{ServerConfig};
+ghost use Rattle.server_rules.specs.Said.{Opened, Said};
 ghost use Rattle.server_rules.specs.State.{ServerState, new_server};
 ghost use Rattle.server_rules.specs.Step.{Happening, after};
 ghost use Rattle.server_laws.specs.Course.{Issuing, leave_of, said_after};
 ghost use Rattle.server_laws.specs.Facts.{IsWithin, RiseBetween, facts_said, ids_in, tokens_in};
+ghost use Rattle.server_laws.specs.Opened.{AreNext, IsOpened, opened_in};
 
 /// The ids that good CreateSubscription responses give rise, so none comes twice; and each lies among those of the
 /// boot number.
@@ -48,4 +51,16 @@ pub fn channel_ids_rise()
     ensures next { (happening : Happening) (s : ServerState)
         → let given = (after happening s).state.channels_given in
         (given ≡ s.channels_given) ⊎ ((leave_of happening ≡ Issuing) × (given ≡ after_message s.channels_given)) }
+{}
+
+/// An OpenSecureChannel response tells the id and the token of the secure channel of the connection on which it is
+/// said, and it is said under them. Where none was open there, the id is the next one, and the token 1; else the id is
+/// that of the open one, and the token the next. The ids of the channels that are so opened rise from 1, and after
+/// 4294967295 comes 1; some may be left out.
+pub fn channel_ids_are_told()
+    ensures told { (happening : Happening) (s : ServerState) (said : Said) (request : ℕ) (r : OpenSecureChannelResponse)
+        → IsWithin (said ∷ []) (after happening s).said → said.told ≡ Opened request r
+        → IsOpened said r s (after happening s).state }
+    ensures rise { (config : ServerConfig) (current : List Change) (happenings : List Happening)
+        → AreNext (opened_in happenings (new_server config current)) }
 {}

@@ -30,9 +30,10 @@ pub fn current_values_are_the_last()
 {}
 
 /// Whatever happens comes to moves: a subscription is made under the next id, is called, fed, or ended. After any of
-/// them each subscription is what the calls of its life made of it, and no other one has its id. Monitoring modes are
-/// set only where SetMonitoringMode asks for it, and of that subscription alone. What is said of the moves is within
-/// what they tell, in order: an answer may be too large, or for nobody.
+/// them each subscription is what the calls of its life made of it, and no other one has its id. Items are made only
+/// where CreateMonitoredItems asks for it, and monitoring modes are set only where SetMonitoringMode asks for it, and of
+/// that subscription alone; and a subscription goes to another session only where TransferSubscriptions names it. What
+/// is said of the moves is within what they tell, in order: an answer may be too large, or for nobody.
 pub fn subscriptions_are_calls()
     ensures step { (happening : Happening) (s : ServerState) → Comes (leave_of happening) s (after happening s) }
     ensures life { (config : ServerConfig) (current : List Change) (happenings : List Happening)

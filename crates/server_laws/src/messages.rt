@@ -15,6 +15,7 @@ ghost use Rattle.server_rules.specs.declared.config.ServerConfig.{ServerConfig};
 ghost use Rattle.server_rules.specs.State.{new_server, sub_at};
 ghost use Rattle.server_rules.specs.Step.{Happening, Hears, after};
 ghost use Rattle.server_rules.specs.Acts.{state_after};
+ghost use Rattle.server_laws.specs.Bounded.{IsBounded};
 ghost use Rattle.server_laws.specs.Counted.{entries_put, held};
 ghost use Rattle.server_laws.specs.Course.{fed_in, life_of};
 ghost use Rattle.server_laws.specs.Facts.{IsWithin, facts_said};
@@ -91,4 +92,18 @@ pub fn chains_of_messages_are_linked()
     subscription::sent_messages_are_kept();
     subscription::neighbours_are_linked();
     subscription::ids_rise();
+}
+
+/// How many messages a subscription of a life may send, by what happened in it: they and the entries that its queues
+/// still hold are no more than the changes that were fed, and the items that CreateMonitoredItems of it asked for, once
+/// each, and once more for each SetMonitoringMode of it that found an item Disabled and left it otherwise. A change
+/// counts once for each item of its node, so once at the most where no two items are of one node. The same is said of
+/// the items that were made in it, which are among those that were asked for, and are as many as ids were given to items
+/// while it is there.
+pub fn messages_of_lives_are_counted()
+    ensures { (config : ServerConfig) (current : List Change) (happenings : List Happening) (id : ℕ)
+        → IsBounded id happenings (new_server config current) }
+{
+    subscription::messages_are_numbered();
+    subscription::sent_messages_are_kept();
 }
