@@ -37,6 +37,7 @@ pub record Shows (c : ClientState) (t : Told) : Type 0 where
   pub ready : (server : ℕ) → 1 ≤ server → server ≤ length c.links → ready_at server t ≡ is_ready (link_of server c)
   pub active : t.active ≡ c.core.active
   pub cursor : 1 ≤ c.cursor
+  pub numbered : (server : ℕ) → c.core.active ≡ Some server → 1 ≤ server
 
 -- a rule's acts show the client as it leaves it, and its switches are choices
 pub record Follows (t : Told) (did : ClientDid) : Type 0 where
@@ -211,6 +212,7 @@ linked_shows server did c t from to tracks shows =
           (λ differs. tells.others other own differs ∙ shows.ready other own (omega arith));
       active = tells.active ∙ shows.active ∙ sym (ap (λ (k : CoreState). k.active) (tells.core ∙ move.core));
       cursor = subst (λ n. 1 ≤ n) (sym tells.cursor) (move.cursor shows.cursor);
+      numbered = λ active is. shows.numbered active (ap (λ (k : CoreState). k.active) (sym (tells.core ∙ move.core)) ∙ is);
     }
 
 linked_follows : (server : ℕ) (did : LinkDid) (c : ClientState) (t : Told) → 1 ≤ server → server ≤ length c.links
@@ -256,7 +258,7 @@ each_follows rule (suc count) c t most shows each =
 
 -- ---- the choice
 
-abbrev one_if : ℕ → Bool → ℕ → List Candidate
+abbrev pub one_if : ℕ → Bool → ℕ → List Candidate
 one_if server b level = if b then record { server = server; level = level } ∷ [] else []
 
 candidates_are : (c : ClientState) (t : Told) (count : ℕ) → count ≤ length c.links → Shows c t
@@ -278,13 +280,13 @@ among_first : (one other : Candidate) (first more : List Candidate) → IsAmong 
 among_first one other first more (inl among) = inl (inr among)
 among_first one other first more (inr among) = inr among
 
-among_append : (one : Candidate) (first more : List Candidate) → IsAmong one (first ++ more)
+pub among_append : (one : Candidate) (first more : List Candidate) → IsAmong one (first ++ more)
     → IsAmong one first ⊎ IsAmong one more
 among_append one [] more among = inr among
 among_append one (other ∷ first) more (inl is) = inl (inl is)
 among_append one (other ∷ first) more (inr among) = among_first one other first more (among_append one first more among)
 
-one_from : (b : Bool) (server level : ℕ) (one : Candidate)
+pub one_from : (b : Bool) (server level : ℕ) (one : Candidate)
     → IsAmong one (one_if server b level) → one.server ≡ server
 one_from true server level one (inl is) = ap (λ (x : Candidate). x.server) is
 one_from true server level one (inr among) = absurd among
@@ -304,12 +306,12 @@ numbered c zero one among = absurd among
 numbered c (suc count) one among =
     numbered_by c count one (numbered c count one) (among_append one (ready_among count c) (candidate_of (count + 1) c) among)
 
-number_test : (server : ℕ) (b : Bool) → (server == 0) ≡ b → 1 ≤ server
+pub number_test : (server : ℕ) (b : Bool) → (server == 0) ≡ b → 1 ≤ server
     → if◌then◌else◌ {A = Option ℕ} b None (Some server) ≡ Some server
 number_test server true e own = absurd (grind (arith, nat_tests))
 number_test server false e own = refl
 
-server_number : (o : Option ℕ) → ((server : ℕ) → o ≡ Some server → 1 ≤ server) → server_of (number_of o) ≡ o
+pub server_number : (o : Option ℕ) → ((server : ℕ) → o ≡ Some server → 1 ≤ server) → server_of (number_of o) ≡ o
 server_number None from = refl
 server_number (Some server) from = number_test server (server == 0) refl (from server refl)
 
@@ -323,6 +325,13 @@ same_is None (Some y) e = absurd cc
 same_is (Some x) None e = absurd cc
 same_is (Some x) (Some y) e = ap (λ n. Some n) (grind (arith, nat_tests))
 
+numbers_differ : (a b : Option ℕ) → is_same a b ≡ false → ((server : ℕ) → a ≡ Some server → 1 ≤ server)
+    → ((server : ℕ) → b ≡ Some server → 1 ≤ server) → number_of a ≢ number_of b
+numbers_differ None None e p q = absurd cc
+numbers_differ None (Some y) e p q = λ same. let own : 1 ≤ y = q y refl in omega arith
+numbers_differ (Some x) None e p q = λ same. let own : 1 ≤ x = p x refl in omega arith
+numbers_differ (Some x) (Some y) e p q = λ same. grind (arith, nat_tests)
+
 choice_by : (c : ClientState) (t : Told) (after : Option ℕ) (same : Bool) → after ≡ choose (ready_of c) c.core.active
     → is_same c.core.active after ≡ same → Shows c t
     → Follows t (switched (if◌then◌else◌ {A = Option (ℕ × ℕ)} same None (Some (number_of c.core.active, number_of after))) (with_choice (ready_of c) c))
@@ -335,6 +344,7 @@ choice_by c t after true is e shows = record {
     ready = shows.ready;
     active = shows.active ∙ same_is c.core.active after e ∙ is;
     cursor = shows.cursor;
+    numbered = chosen_from c c.core.active;
   };
   choices = tt;
 }
@@ -347,11 +357,13 @@ choice_by c t after false is e shows = record {
     active = ap (λ o. server_of (number_of o)) is
         ∙ server_number (choose (ready_of c) c.core.active) (chosen_from c c.core.active);
     cursor = shows.cursor;
+    numbered = chosen_from c c.core.active;
   };
   choices = (
     (
       ap number_of shows.active,
       ap₂ (λ cs a. number_of (choose cs a)) (all_candidates c t shows) shows.active ∙ sym (ap number_of is),
+      numbers_differ c.core.active after e shows.numbered (λ server f. chosen_from c c.core.active server (sym is ∙ f)),
     ),
     tt,
   );
@@ -414,6 +426,7 @@ dials_test true server l c t from as_ready shows =
           (λ differs. shows.ready other own (omega arith));
       active = shows.active;
       cursor = shows.cursor;
+      numbered = shows.numbered;
     }
 
 dials_at_shows : (server : ℕ) (c : ClientState) (t : Told) → 1 ≤ server → Shows c t → Shows (dials_at server c) t
@@ -475,6 +488,7 @@ counted_shows c t shows = record {
   ready = shows.ready;
   active = shows.active;
   cursor = shows.cursor;
+  numbered = shows.numbered;
 }
 
 happening_follows : (h : Happening) (c : ClientState) (t : Told) → Shows c t → Follows t (happening h c)
@@ -541,6 +555,7 @@ start_shows config =
       ready = λ server from to. start_ready config server from (omega arith);
       active = refl;
       cursor = omega arith;
+      numbered = λ server is. absurd cc;
     }
 
 -- all switches of a life are choices

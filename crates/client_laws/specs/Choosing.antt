@@ -1,5 +1,5 @@
 -- What the acts of a client tell of its servers, and the choice for which each of its switches stands.
-use Rattle.std.specs.Prelude.{◌≡◌, ℕ, ◌+◌, ◌-◌, ◌==◌, zero, suc, Bool, true, false, List, [], ◌∷◌, ◌++◌, length, replicate, Option, Some, None, if◌then◌else◌, slice_index_or, slice_set}
+use Rattle.std.specs.Prelude.{◌≡◌, ◌≢◌, ℕ, ◌+◌, ◌-◌, ◌==◌, zero, suc, Bool, true, false, List, [], ◌∷◌, ◌++◌, length, replicate, Option, Some, None, if◌then◌else◌, slice_index_or, slice_set}
 use Rattle.failover_core.specs.declared.choice.Candidate.{Candidate}
 use Rattle.failover_core.specs.Choice.{choose, number_of}
 use Rattle.link_rules.specs.declared.notice.Notice.{Notice}
@@ -65,15 +65,41 @@ candidates_of t = candidates_among (length t.ready) t
 
 -- ---- switches
 
--- a switch goes from the server that was chosen before to the one that is chosen now, among those that are ready, by the
--- levels that were read of them last
+-- a switch goes from the server that was chosen before to another one, which is chosen now among those that are ready, by
+-- the levels that were read of them last
 abbrev pub IsChoice : ClientAct → Told → Type 0
 IsChoice (Happened happening) t = Unit {0}
 IsChoice (Tells server n) t = Unit {0}
 IsChoice (Says server said) t = Unit {0}
 IsChoice (Switches from to) t =
-    (number_of t.active ≡ from) × (number_of (choose (candidates_of t) t.active) ≡ to)
+    (number_of t.active ≡ from) × (number_of (choose (candidates_of t) t.active) ≡ to) × (from ≢ to)
 
 unfoldable pub AreChoices : List ClientAct → Told → Type 0
 AreChoices [] t = Unit {0}
 AreChoices (act ∷ acts) t = IsChoice act t × AreChoices acts (told_by act t)
+
+-- ---- how many there are
+
+-- what a server tells that may change the choice: that it is ready or lost, and a level
+abbrev pub is_tidings : Notice → Bool
+is_tidings notice.Ready = true
+is_tidings notice.Lost = true
+is_tidings (notice.Level level) = true
+is_tidings other = false
+
+abbrev pub counted_if : Bool → ℕ
+counted_if b = if b then 1 else 0
+
+unfoldable pub tidings_in : List ClientAct → ℕ
+tidings_in [] = 0
+tidings_in (Happened happening ∷ acts) = tidings_in acts
+tidings_in (Tells server n ∷ acts) = counted_if (is_tidings n) + tidings_in acts
+tidings_in (Says server said ∷ acts) = tidings_in acts
+tidings_in (Switches from to ∷ acts) = tidings_in acts
+
+unfoldable pub switches_in : List ClientAct → ℕ
+switches_in [] = 0
+switches_in (Happened happening ∷ acts) = switches_in acts
+switches_in (Tells server n ∷ acts) = switches_in acts
+switches_in (Says server said ∷ acts) = switches_in acts
+switches_in (Switches from to ∷ acts) = 1 + switches_in acts

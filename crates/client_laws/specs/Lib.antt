@@ -1,2 +1,3 @@
 pub mod Life
 pub mod Choosing
+pub mod Windows

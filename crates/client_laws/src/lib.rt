@@ -5,5 +5,7 @@
 mod log;
 mod switching;
 
-pub use log::{gaps_have_true_causes, logs_are_of_their_acts, stamps_rise};
-pub use switching::{switches_are_choices, switches_go_to_the_best};
+pub use log::{
+    gaps_have_true_causes, items_are_held_until_they_report, logs_are_of_their_acts, stamps_rise,
+};
+pub use switching::{switches_are_choices, switches_are_few, switches_go_to_the_best};

@@ -7,9 +7,9 @@ ghost use Rattle.client_rules.specs.State.{servers_of};
 ghost use Rattle.client_rules.specs.Acts.{ClientAct, Switches};
 ghost use Rattle.client_rules.specs.Step.{Moment};
 ghost use Rattle.client_laws.specs.Life.{acts_of};
-ghost use Rattle.client_laws.specs.Choosing.{AreChoices, candidates_of, nothing_told, told_after};
+ghost use Rattle.client_laws.specs.Choosing.{AreChoices, candidates_of, nothing_told, switches_in, tidings_in, told_after};
 
-/// Each switch goes from the server that the switch before it went to, to the one that is chosen among the servers that
+/// Each switch goes from the server that the switch before it went to, to another one, which is chosen among the servers that
 /// the acts before it tell to be ready, by the levels that they tell to have been read last.
 pub fn switches_are_choices()
     ensures { (config : ClientConfig) (moments : List Moment)
@@ -24,4 +24,11 @@ pub fn switches_go_to_the_best()
         → acts_of config moments ≡ front ++ Switches from to ∷ back → 1 ≤ to
         → IsBest (candidates_of (told_after front (nothing_told (servers_of config))))
         (told_after front (nothing_told (servers_of config))).active to }
+{}
+
+/// There are no more switches than times at which a server told that it is ready or lost or what its level is: a choice
+/// stays until one does.
+pub fn switches_are_few()
+    ensures { (config : ClientConfig) (moments : List Moment)
+        → switches_in (acts_of config moments) ≤ tidings_in (acts_of config moments) }
 {}
