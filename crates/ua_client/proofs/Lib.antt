@@ -1,0 +1,9 @@
+pub mod Counting
+pub mod Looping
+pub mod OneEnd
+pub mod Keeping
+pub mod Hushing
+pub mod Deafening
+pub mod Staying
+pub mod Strangers
+pub mod Taking
