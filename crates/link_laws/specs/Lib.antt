@@ -1,0 +1,11 @@
+pub mod Taken
+pub mod Told
+pub mod Lockstep
+pub mod Asked
+pub mod Numbered
+pub mod Counted
+pub mod Acks
+pub mod Course
+pub mod Waiting
+pub mod Missed
+pub mod Setting
