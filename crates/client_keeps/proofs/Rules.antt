@@ -24,7 +24,7 @@ use Rattle.client_rules.specs.Acts.{ClientAct, Happening, Happened, Tells, Says,
 use Rattle.client_rules.specs.Doing.{ClientDid, and_then, each_server, nothing}
 use Rattle.client_rules.specs.Links.{all_told, fell, falls, linked, linked_by, moved, told, with_level_told}
 use Rattle.client_rules.specs.Settling.{are_fewer, chosen, modes_told, ready_of, round, settled, settled_within, switched, told_mode, with_choice}
-use Rattle.client_rules.specs.Dialling.{are_idle, dialled, dialled_by, dials_among, dials_at, dials_if, dials_one, first_to_dial}
+use Rattle.client_rules.specs.Dialling.{are_idle, dialled, dialled_by, dials_among, dials_at, dials_if, dials_one, first_to_dial, has_numbers}
 use Rattle.client_rules.specs.Step.{Moment, Goes, Ends, after, after_all, at_moment, counted, dial_text, endpoint, happening, happens, is_known, new_client, opens, ticks, url_text}
 use Rattle.client_keeps.specs.Fitting.{FitsClient, FitsConfig, FitsHappening, FitsMoment, FitsUrl, KeepsAct}
 
@@ -203,7 +203,8 @@ dialled_by_fits Cold c fits =
 
 dialled_fits : (c : ClientState) → FitsClient c → FitsClient (dialled c)
 unfolding dialled
-dialled_fits c fits = dialled_by_fits c.config.mode c fits
+dialled_fits c fits =
+    client_if (has_numbers c) (dialled_by c.config.mode c) c (dialled_by_fits c.config.mode c fits) fits
 
 -- ---- events
 

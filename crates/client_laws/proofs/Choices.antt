@@ -23,7 +23,7 @@ use Rattle.client_rules.specs.Acts.{ClientAct, Happening, Happened, Tells, Says,
 use Rattle.client_rules.specs.Doing.{ClientDid, and_then, each_server, nothing}
 use Rattle.client_rules.specs.Links.{all_told, fell, falls, server_after, linked, linked_by, moved, told, with_level_told}
 use Rattle.client_rules.specs.Settling.{are_fewer, candidate_of, chosen, ready_among, ready_of, round, settled, settled_within, switched, told_mode, with_choice}
-use Rattle.client_rules.specs.Dialling.{are_idle, dialled, dialled_by, dials_among, dials_at, dials_if, dials_one, first_to_dial}
+use Rattle.client_rules.specs.Dialling.{are_idle, dialled, dialled_by, dials_among, dials_at, dials_if, dials_one, first_to_dial, has_numbers}
 use Rattle.client_rules.specs.Step.{Moment, Goes, Ends, after, after_all, at_moment, counted, happening, happens, is_known, new_client, opens, ticks}
 use Rattle.client_laws.specs.Life.{acts_of}
 use Rattle.client_laws.specs.Choosing.{AreChoices, IsChoice, Told, candidate_at, candidates_among, candidates_of, level_at, level_by, nothing_told, ready_at, ready_by, server_of, told_after, told_by}
@@ -467,7 +467,8 @@ dialled_by_shows Cold c t shows =
 
 dialled_shows : (c : ClientState) (t : Told) → Shows c t → Shows (dialled c) t
 unfolding dialled
-dialled_shows c t shows = dialled_by_shows c.config.mode c t shows
+dialled_shows c t shows =
+    one_test (has_numbers c) c (dialled_by c.config.mode c) t shows (dialled_by_shows c.config.mode c t shows)
 
 -- ---- events
 

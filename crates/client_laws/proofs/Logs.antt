@@ -28,7 +28,7 @@ use Rattle.client_rules.specs.Acts.{ClientAct, Happening, Happened, Tells, Says,
 use Rattle.client_rules.specs.Doing.{ClientDid, and_then, each_server, nothing}
 use Rattle.client_rules.specs.Links.{all_told, fell, falls, linked, linked_by, moved, told, with_level_told}
 use Rattle.client_rules.specs.Settling.{are_fewer, candidate_of, chosen, ready_of, round, settled, settled_within, switched, told_mode, with_choice}
-use Rattle.client_rules.specs.Dialling.{are_idle, dialled, dialled_by, dials_among, dials_at, dials_if, dials_one, first_to_dial}
+use Rattle.client_rules.specs.Dialling.{are_idle, dialled, dialled_by, dials_among, dials_at, dials_if, dials_one, first_to_dial, has_numbers}
 use Rattle.client_rules.specs.Step.{Moment, Goes, Ends, after, after_all, at_moment, counted, happening, happens, is_known, new_client, opens, ticks}
 use Rattle.client_rules.specs.History.{history_after, seen_before}
 use Rattle.client_laws.specs.Life.{acts_of, client_after, history_of, life}
@@ -365,9 +365,14 @@ dialled_by_stays Cold c =
     one_test (are_idle (length c.links) c) c (dials_if (first_to_dial (length c.links) c.cursor c) c)
     (if_stays (first_to_dial (length c.links) c.cursor c) c)
 
+numbers_stay : (b : Bool) (c next : ClientState) → Stays c next → Stays c (if b then next else c)
+numbers_stay true c next stays = stays
+numbers_stay false c next stays = record { config = refl; links = refl; log = refl }
+
 dialled_stays : (c : ClientState) → Stays c (dialled c)
 unfolding dialled
-dialled_stays c = dialled_by_stays c.config.mode c
+dialled_stays c =
+    numbers_stay (has_numbers c) c (dialled_by c.config.mode c) (dialled_by_stays c.config.mode c)
 
 -- ---- events
 

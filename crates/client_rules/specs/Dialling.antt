@@ -1,5 +1,5 @@
--- Which links may dial: in hot and warm all, in cold one at a time.
-use Rattle.std.specs.Prelude.{ℕ, ◌+◌, zero, suc, ◌&&◌, Bool, true, length, Option, Some, None, if◌then◌else◌}
+-- Which links may dial: in hot and warm all, in cold one at a time, and none once all numbers are used up.
+use Rattle.std.specs.Prelude.{ℕ, ◌+◌, ◌-◌, ◌^◌, nat_lt, zero, suc, ◌&&◌, Bool, true, length, Option, Some, None, if◌then◌else◌}
 use Rattle.ua_base.specs.declared.modes.SetMode.{SetMode}
 use Rattle.ua_base.specs.declared.modes.SetMode.TheVariants.{Direct, Hot, Warm, Cold}
 use Rattle.link_rules.specs.State.{is_idle}
@@ -40,6 +40,10 @@ dialled_by Warm c = dials_among (length c.links) c
 dialled_by Cold c = dials_one c
 dialled_by Direct c = c
 
+-- connections have numbers of 32 bits: after the last one nobody is dialled
+abbrev pub has_numbers : ClientState → Bool
+has_numbers c = nat_lt c.dials (2 ^ 32 - 1)
+
 -- the end of an event
 unfoldable pub dialled : ClientState → ClientState
-dialled c = dialled_by c.config.mode c
+dialled c = if has_numbers c then dialled_by c.config.mode c else c

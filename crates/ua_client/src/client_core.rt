@@ -222,6 +222,13 @@ impl ClientCore {
         Ok(UaText::new(text))
     }
 
+    /// How many connections were opened.
+    pub(crate) fn dials(&self) -> u64
+        ensures { result ≡ self.now.dials }
+    {
+        self.dials
+    }
+
     /// One more connection was opened.
     pub(crate) fn count_dial(&mut self)
         ensures { self.new ≡ counted self.old }

@@ -1,7 +1,7 @@
 //! Which links may dial: in hot and warm all, in cold one at a time.
 
 ghost use Rattle.std.specs.Prelude.{◌≡◌, IfSome, length};
-ghost use Rattle.client_rules.specs.Dialling.{are_idle, dialled, dials_among, dials_at, dials_one, first_to_dial};
+ghost use Rattle.client_rules.specs.Dialling.{are_idle, dialled, dialled_by, dials_among, dials_at, dials_one, first_to_dial};
 ghost use Rattle.ua_client.specs.Standing.{HasServer};
 
 use crate::client_core::ClientCore;
@@ -67,14 +67,23 @@ fn dial_one(client: &mut ClientCore)
     }
 }
 
-/// The end of an event.
-#[tactic(auto, unfolding(client_rules::specs::Dialling::dialled))]
-pub(crate) fn dial(client: &mut ClientCore)
-    ensures { client.new ≡ dialled client.old }
+/// Lets those links dial that may by the client's mode.
+fn dial_by_mode(client: &mut ClientCore)
+    ensures { client.new ≡ dialled_by client.old.config.mode client.old }
 {
     match client.mode() {
         SetMode::Hot | SetMode::Warm => dial_all(client),
         SetMode::Cold => dial_one(client),
         SetMode::Direct => {}
+    }
+}
+
+/// The end of an event. Once all numbers of connections are used up nobody is dialled.
+#[tactic(auto, unfolding(client_rules::specs::Dialling::dialled))]
+pub(crate) fn dial(client: &mut ClientCore)
+    ensures { client.new ≡ dialled client.old }
+{
+    if client.dials() < u64::from(u32::MAX) {
+        dial_by_mode(client);
     }
 }
