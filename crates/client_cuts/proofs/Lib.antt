@@ -1,0 +1,11 @@
+pub mod Ends
+pub mod Alike
+pub mod Awake
+pub mod Following
+pub mod Dialling
+pub mod Holding
+pub mod Cutting
+pub mod Wishing
+pub mod Resting
+pub mod Mapped
+pub mod Taking
