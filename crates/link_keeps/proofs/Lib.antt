@@ -1,3 +1,4 @@
 pub mod Requests
+pub mod Readying
 pub mod Rules
 pub mod Again

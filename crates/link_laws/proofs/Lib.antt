@@ -3,6 +3,7 @@ pub mod Coming
 pub mod Opening
 pub mod Alternating
 pub mod Reading
+pub mod Replying
 pub mod Lockstepping
 pub mod Plain
 pub mod Modes

@@ -33,6 +33,8 @@ mod Lasting
 mod Beginning
 mod Setting
 mod Making
+mod Waking
+mod Tallying
 mod Bounding
 mod Numbering
 mod Holding
