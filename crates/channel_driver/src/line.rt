@@ -8,7 +8,9 @@ use crate::relay::Relay;
 use rows::{Driver, Stop, bytes_of, number, put_bytes};
 use std::alloc::Global;
 use ua_base::OutOfMemory;
-use ua_channel::{Channel, ChannelFault, Channels, Ear, Limits, Order, Rest, Wire, take_bytes};
+use ua_channel::{
+    Channel, ChannelFault, Channels, Ear, Limits, Order, Rest, Side, Wire, take_bytes,
+};
 use ua_chunks::Kind;
 
 /// An end with its core.
@@ -18,24 +20,32 @@ struct End {
     channel: Channel,
 }
 
-/// What an end takes first, by a word.
-fn ear_of(word: &str) -> Result<Ear, Stop> {
+/// A side of a connection, by a word.
+fn side_of(word: &str) -> Result<Side, Stop> {
     match word {
-        "server" => Ok(Ear::Hello),
-        "client" => Ok(Ear::Acknowledge),
+        "server" => Ok(Side::Server),
+        "client" => Ok(Side::Client),
         _ => Err(Stop::BadLine),
     }
 }
 
+/// What an end takes first.
+fn first_ear(side: Side) -> Ear {
+    match side {
+        Side::Server => Ear::Hello,
+        Side::Client => Ear::Acknowledge,
+    }
+}
+
 impl End {
-    fn new(alloc: Global, ear: Ear) -> End {
+    fn new(alloc: Global, side: Side) -> End {
         End {
             echo: Echo {
-                ear,
+                ear: first_ear(side),
                 channel: 0,
                 token: 0,
             },
-            channel: Channel::new(alloc),
+            channel: Channel::new(alloc, side),
         }
     }
 
@@ -56,8 +66,8 @@ impl End {
 }
 
 /// What an end says of these pieces.
-fn said(alloc: Global, ear: Ear, first: &[u8], second: &[u8]) -> Result<String, Stop> {
-    let mut end = End::new(alloc, ear);
+fn said(alloc: Global, side: Side, first: &[u8], second: &[u8]) -> Result<String, Stop> {
+    let mut end = End::new(alloc, side);
     end.take(alloc, first)?;
     end.take(alloc, second)?;
     let mut text = String::new(alloc);
@@ -66,8 +76,8 @@ fn said(alloc: Global, ear: Ear, first: &[u8], second: &[u8]) -> Result<String, 
 }
 
 /// What an end says of these bytes one by one.
-fn said_singly(alloc: Global, ear: Ear, bytes: &[u8]) -> Result<String, Stop> {
-    let mut end = End::new(alloc, ear);
+fn said_singly(alloc: Global, side: Side, bytes: &[u8]) -> Result<String, Stop> {
+    let mut end = End::new(alloc, side);
     for byte in bytes {
         end.take(alloc, &[*byte])?;
     }
@@ -77,16 +87,16 @@ fn said_singly(alloc: Global, ear: Ear, bytes: &[u8]) -> Result<String, Stop> {
 }
 
 /// Says what comes of all bytes at once, and at which cuts something else comes.
-fn tell_cuts(alloc: Global, ear: Ear, bytes: &[u8], to: &mut String) -> Result<(), Stop> {
-    let whole = said(alloc, ear, bytes, &[])?;
+fn tell_cuts(alloc: Global, side: Side, bytes: &[u8], to: &mut String) -> Result<(), Stop> {
+    let whole = said(alloc, side, bytes, &[])?;
     to.push_str(&whole)?;
-    let singly = said_singly(alloc, ear, bytes)?;
+    let singly = said_singly(alloc, side, bytes)?;
     if singly.as_str() != whole.as_str() {
         to.push_str(" / otherwise one by one")?;
     }
     for place in 0..bytes.len() {
         let (first, second) = bytes.split_at(place);
-        let cut = said(alloc, ear, first, second)?;
+        let cut = said(alloc, side, first, second)?;
         if cut.as_str() != whole.as_str() {
             to.push_str(&format!(in alloc; " / otherwise at {place}")?)?;
         }
@@ -95,8 +105,8 @@ fn tell_cuts(alloc: Global, ear: Ear, bytes: &[u8], to: &mut String) -> Result<(
 }
 
 /// Takes the words as pieces.
-fn tell_pieces(alloc: Global, ear: Ear, pieces: &[&str], to: &mut String) -> Result<(), Stop> {
-    let mut end = End::new(alloc, ear);
+fn tell_pieces(alloc: Global, side: Side, pieces: &[&str], to: &mut String) -> Result<(), Stop> {
+    let mut end = End::new(alloc, side);
     for piece in pieces {
         let bytes = bytes_of(alloc, &[*piece])?;
         end.take(alloc, &bytes)?;
@@ -147,7 +157,7 @@ fn put_limited(
 ) -> Result<(), Stop>
     requires { MayCarry kind (length body.items) }
 {
-    let mut channel = Channel::new(alloc);
+    let mut channel = Channel::new(alloc, Side::Server);
     if channel.obey(alloc, &Order::Limit(limits)).is_err() {
         return Err(Stop::OutOfMemory);
     }
@@ -174,7 +184,7 @@ fn put_at(alloc: Global, channels: &mut Channels, count: u32, to: &mut String) -
         to.push_str("none")?;
         return Ok(());
     }
-    let mut channel = channels.swap(count, Channel::new(alloc));
+    let mut channel = channels.swap(count, Channel::new(alloc, Side::Server));
     let mut echo = Echo {
         ear: Ear::Hello,
         channel: 0,
@@ -211,7 +221,7 @@ fn do_step(
             if channels.contains(count) {
                 to.push_str("there")?;
             } else {
-                channels.open(alloc, count)?;
+                channels.open(count, Channel::new(alloc, Side::Server))?;
                 to.push_str("opened")?;
             }
         }
@@ -251,7 +261,7 @@ fn tell_relay(alloc: Global, steps: &[&str], to: &mut String) -> Result<(), Stop
     let mut channels = Channels::new(alloc);
     for number in 0..4 {
         if !channels.contains(number) {
-            channels.open(alloc, number)?;
+            channels.open(number, Channel::new(alloc, Side::Server))?;
         }
     }
     let mut rest = Rest {
@@ -294,7 +304,7 @@ fn tell_many(alloc: Global, count: u32, to: &mut String) -> Result<(), Stop> {
     let mut channels = Channels::new(alloc);
     for number in 0..count {
         if !channels.contains(number) {
-            channels.open(alloc, number)?;
+            channels.open(number, Channel::new(alloc, Side::Server))?;
         }
     }
     let all = standing(&channels, count);
@@ -327,11 +337,11 @@ impl Driver for Ends {
     fn answer(&mut self, alloc: Global, words: &[&str], to: &mut String) -> Result<(), Stop> {
         match words {
             ["cuts", role, digits @ ..] => {
-                let ear = ear_of(role)?;
+                let side = side_of(role)?;
                 let bytes = bytes_of(alloc, digits)?;
-                tell_cuts(alloc, ear, &bytes, to)
+                tell_cuts(alloc, side, &bytes, to)
             }
-            ["pieces", role, pieces @ ..] => tell_pieces(alloc, ear_of(role)?, pieces, to),
+            ["pieces", role, pieces @ ..] => tell_pieces(alloc, side_of(role)?, pieces, to),
             ["put", kind, frame, max_message, max_chunks, size] => {
                 let numbers = [number(frame)?, number(max_message)?, number(max_chunks)?];
                 tell_put(alloc, kind, numbers, number(size)?, to)

@@ -58,10 +58,10 @@ module _ {C Q : Type 0} (ears : C → Ear) (answer : Heard → C → C × List O
   frame_alike : (f : Frame) (n k : NodeState C) → Alike part n k → Alike part (with_frame ears answer f n) (with_frame ears answer f k)
   unfolding with_frame
   frame_alike f n k alike =
-      let one : Hearing = hearing (ears n.core) f n.channel.assembly in
-      let other : Hearing = hearing (ears k.core) f k.channel.assembly in
+      let one : Hearing = hearing n.channel.side (ears n.core) f n.channel.assembly in
+      let other : Hearing = hearing k.channel.side (ears k.core) f k.channel.assembly in
       let same : one ≡ other =
-      ap₂ (λ (e : Ear) (c : ChannelState). hearing e f c.assembly) (same_ears n.core k.core alike.core) alike.channel in
+      ap₂ (λ (e : Ear) (c : ChannelState). hearing c.side e f c.assembly) (same_ears n.core k.core alike.core) alike.channel in
       deaf_alike n (after_hearing ears answer one n) k (after_hearing ears answer other k) n k alike alike
       (subst (λ (h : Hearing). Alike part (after_hearing ears answer one n) (after_hearing ears answer h k)) same (hearing_alike one n k alike))
 

@@ -2,9 +2,9 @@
 use Rattle.std.proofs.Common.{◌≡◌, ℕ, zero, suc, ◌+◌, ◌&&◌, ◌++◌, Bool, true, false, cond, nat_le, List, length, Option, Some, None, refl, sym, ap, ap₂, subst, ◌∙◌}
 use Rattle.ua_channel.specs.declared.heard.Heard.{Heard}
 use Rattle.ua_channel.specs.declared.wire.Order.{Order}
-use Rattle.ua_channel.specs.State.{ChannelState, is_deaf, new_channel, shut}
+use Rattle.ua_channel.specs.State.{ChannelState, is_deaf, blank_end, shut}
 use Rattle.ua_channel.specs.Node.{NodeState, node_after}
-use Rattle.ua_channel.specs.Sharing.{Ends, end_at, others, put_back, taken_by, with_end}
+use Rattle.ua_channel.specs.Sharing.{Ends, end_at, others, put_back, shut_by, taken_by, with_end}
 use Rattle.ua_channel.proofs.Cutting.{deaf_after}
 use Rattle.client_rules.specs.State.{ClientState, is_server}
 use Rattle.client_rules.specs.Dialling.{dialled}
@@ -12,8 +12,8 @@ use Rattle.client_rules.specs.Step.{ears, heard}
 use Rattle.ua_client.specs.declared.event.ClientEvent.{ClientEvent}
 use Rattle.ua_client.specs.declared.event.ClientEvent.TheVariants as event
 use Rattle.ua_client.specs.State.{BytesState}
-use Rattle.ua_client.specs.Step.{apart, ended, ends_of, happened, put_ends, is_of_client, rest_answer, rest_ears, shut_among, shut_at, shut_by, stepped, taken}
-use Rattle.ua_client.proofs.OneEnd.{back_again}
+use Rattle.ua_client.specs.Step.{apart, ended, ends_of, happened, put_ends, is_of_client, rest_answer, rest_ears, shut_among, shut_at, stepped, taken}
+use Rattle.ua_channel.proofs.OneEnd.{back_again}
 use Rattle.ua_client.proofs.Strangers.{no_event}
 use Rattle.ua_client.proofs.Taking.{taken_cut}
 use Rattle.client_cuts.proofs.Alike.{Alike, bytes_alike}
@@ -143,7 +143,7 @@ took_same (Some c) server bytes s =
     (λ h c d e. same_part server h c d e)
     bytes (apart server c s) (apart server c (part s))
     (record {
-      core = ap (both s.hub) (sym (all_set (deaf_ears s.hub) (length s.hub.links) server new_channel s.channels));
+      core = ap (both s.hub) (sym (all_set (deaf_ears s.hub) (length s.hub.links) server blank_end s.channels));
       channel = refl;
     }))
 
@@ -163,7 +163,7 @@ took_nothing : (o : Option ChannelState) (server : ℕ) (bytes : List ℕ) (s : 
 took_nothing None server bytes s e deaf = refl
 took_nothing (Some c) server bytes s e deaf =
     ap (back server) (deaf_after (rest_ears server) (rest_answer server) bytes (apart server c s) deaf)
-    ∙ ap (both s.hub) (back_again server c new_channel s.channels e)
+    ∙ ap (both s.hub) (back_again server c blank_end s.channels e)
 
 taken_nothing : (server : ℕ) (bytes : List ℕ) (s : BytesState) → is_deaf (ears server s.hub) ≡ true → taken server bytes s ≡ s
 unfolding taken

@@ -31,7 +31,7 @@ module _ {C : Type 0} (ears : C → Ear) (answer : Heard → C → C × List Ord
 
   frame_holds : (f : Frame) (n : NodeState C) → P n.core → P (with_frame ears answer f n).core
   unfolding with_frame
-  frame_holds f n p = frame_by (deaf ears answer n) (hearing (ears n.core) f n.channel.assembly) n p
+  frame_holds f n p = frame_by (deaf ears answer n) (hearing n.channel.side (ears n.core) f n.channel.assembly) n p
 
   frames_hold : (frames : List Frame) (n : NodeState C) → P n.core → P (with_frames ears answer frames n).core
   frames_hold [] n p = p

@@ -81,10 +81,10 @@ module _ {C : Type 0} (ears : C → Ear) (answer : Heard → C → C × List Ord
   frame_image : (f : Frame) (n : NodeState C) → with_frame ears answer f (image n) ≡ image (with_frame ears answer f n)
   unfolding with_frame
   frame_image f n =
-      deaf_image n (after_hearing ears answer (hearing (ears (other n.core)) f n.channel.assembly) (image n))
-      (after_hearing ears answer (hearing (ears n.core) f n.channel.assembly) n) n
-      (ap (λ (e : Ear). after_hearing ears answer (hearing e f n.channel.assembly) (image n)) (same_ears n.core)
-      ∙ hearing_image (hearing (ears n.core) f n.channel.assembly) n)
+      deaf_image n (after_hearing ears answer (hearing n.channel.side (ears (other n.core)) f n.channel.assembly) (image n))
+      (after_hearing ears answer (hearing n.channel.side (ears n.core) f n.channel.assembly) n) n
+      (ap (λ (e : Ear). after_hearing ears answer (hearing n.channel.side e f n.channel.assembly) (image n)) (same_ears n.core)
+      ∙ hearing_image (hearing n.channel.side (ears n.core) f n.channel.assembly) n)
 
   frames_image : (frames : List Frame) (n : NodeState C) → with_frames ears answer frames (image n) ≡ image (with_frames ears answer frames n)
   frames_image [] n = refl

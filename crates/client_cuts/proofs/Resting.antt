@@ -2,14 +2,15 @@
 use Rattle.std.proofs.Common.{◌≡◌, ℕ, zero, suc, ◌+◌, ◌++◌, Bool, true, false, cond, List, [], ◌∷◌, length, is_some, Option, Some, None, Ordering, Less, Equal, Greater, refl, sym, ap, ap₂, ◌∙◌}
 use Rattle.std.specs.Ordering.{match_ordering, nat_cmp}
 use Rattle.std.specs.BTreeMap.{insert_entry}
+use Rattle.ua_channel.specs.declared.side.Side.TheVariants as sides
 use Rattle.ua_channel.specs.State.{ChannelState, new_channel}
-use Rattle.ua_channel.specs.Sharing.{Ends, end_at}
+use Rattle.ua_channel.specs.Sharing.{Ends, emptied_by, end_at}
 use Rattle.client_rules.specs.declared.config.ClientConfig.{ClientConfig}
 use Rattle.client_rules.specs.State.{ClientState, idle_client, servers_of}
 use Rattle.client_rules.specs.Dialling.{dialled}
 use Rattle.client_rules.specs.Step.{new_client}
 use Rattle.ua_client.specs.declared.event.ClientEvent.TheVariants as event
-use Rattle.ua_client.specs.State.{BytesState, emptied_by, first_ends, new_bytes, without_out, without_wish}
+use Rattle.ua_client.specs.State.{BytesState, first_ends, new_bytes, without_out, without_wish}
 use Rattle.ua_client.specs.Step.{stepped}
 use Rattle.client_cuts.specs.Resting.{Call, IsAtRest, Steps, TakesOut, TakesWish, called, called_all, life_after}
 use Rattle.client_cuts.proofs.Cutting.{both, deaf_ears, ended_is, events_cut, shut_for, step_rests}
@@ -20,17 +21,17 @@ use Rattle.client_cuts.proofs.Wishing.{wish_count, wish_deaf, wish_still}
 -- ---- a client that begins
 
 by_order : (o : Ordering) (k : ℕ) (e : ℕ × ChannelState) (es more : Ends) → AreShut (e ∷ es) → AreShut more
-    → AreShut (match_ordering o ((k, new_channel) ∷ e ∷ es) ((e.0, new_channel) ∷ es) (e ∷ more))
+    → AreShut (match_ordering o ((k, new_channel sides.Client) ∷ e ∷ es) ((e.0, new_channel sides.Client) ∷ es) (e ∷ more))
 by_order Less k e es more are later = (refl, are)
 by_order Equal k e es more are later = (refl, are.1)
 by_order Greater k e es more are later = (are.0, later)
 
-inserted_shut : (k : ℕ) (es : Ends) → AreShut es → AreShut (insert_entry nat_cmp es k new_channel)
+inserted_shut : (k : ℕ) (es : Ends) → AreShut es → AreShut (insert_entry nat_cmp es k (new_channel sides.Client))
 inserted_shut k [] are = (refl, tt)
 inserted_shut k (e ∷ es) are =
-    by_order (nat_cmp k e.0) k e es (insert_entry nat_cmp es k new_channel) are (inserted_shut k es are.1)
+    by_order (nat_cmp k e.0) k e es (insert_entry nat_cmp es k (new_channel sides.Client)) are (inserted_shut k es are.1)
 
-opened_by : (b : Bool) (k : ℕ) (es : Ends) → AreShut es → AreShut (cond b es (insert_entry nat_cmp es k new_channel))
+opened_by : (b : Bool) (k : ℕ) (es : Ends) → AreShut es → AreShut (cond b es (insert_entry nat_cmp es k (new_channel sides.Client)))
 opened_by true k es are = are
 opened_by false k es are = inserted_shut k es are
 

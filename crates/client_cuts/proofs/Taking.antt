@@ -3,10 +3,11 @@ use Rattle.std.proofs.Common.{◌≡◌, ◌≢◌, ◌⊎◌, inl, inr, ℕ, �
 use Rattle.std.proofs.lemmas.List.{append-nil}
 use Rattle.std.proofs.lemmas.Map.Steps.{set_value_same}
 use Rattle.ua_channel.specs.declared.wire.Order.{Order}
-use Rattle.ua_channel.specs.State.{ChannelState, new_channel}
+use Rattle.ua_channel.specs.declared.side.Side.TheVariants as sides
+use Rattle.ua_channel.specs.State.{ChannelState, blank_end, new_channel}
 use Rattle.ua_channel.specs.Orders.{obeyed}
 use Rattle.ua_channel.specs.Node.{NodeState, node_after}
-use Rattle.ua_channel.specs.Sharing.{Ends, end_at, obeyed_at, others, put_back, taken_by, with_end}
+use Rattle.ua_channel.specs.Sharing.{Ends, end_at, obeyed_at, obeyed_each, others, out_by, put_back, taken_by, with_end}
 use Rattle.link_rules.specs.Opening.{begins_anew}
 use Rattle.client_rules.specs.State.{link_of}
 use Rattle.client_rules.specs.Acts.{Closes, Opens, Refuses, Ticks}
@@ -14,8 +15,8 @@ use Rattle.client_rules.specs.Dialling.{dialled}
 use Rattle.client_rules.specs.Step.{after, heard}
 use Rattle.ua_client.specs.declared.event.ClientEvent.{ClientEvent}
 use Rattle.ua_client.specs.declared.event.ClientEvent.TheVariants as event
-use Rattle.ua_client.specs.State.{BytesState, out_by, out_of, without_out}
-use Rattle.ua_client.specs.Step.{apart, ended, ends_of, happened, is_of_client, obeyed_each, put_ends, rest_answer, rest_ears, stepped, taken}
+use Rattle.ua_client.specs.State.{BytesState, out_of, without_out}
+use Rattle.ua_client.specs.Step.{apart, ended, ends_of, happened, is_of_client, put_ends, rest_answer, rest_ears, stepped, taken}
 use Rattle.client_cuts.specs.Resting.{IsAtRest}
 use Rattle.client_cuts.specs.Waiting.{IsNoOpening, waiting_by, with_waiting}
 use Rattle.client_cuts.proofs.Cutting.{both, deaf_ears, ended_is, events_cut}
@@ -86,7 +87,7 @@ own_held None server bytes p s = refl
 own_held (Some c) server bytes p s =
     let n : NodeState BytesState = node_then server bytes (apart server c s) in
     ap (λ (ends : Ends). back server (node_then server bytes (record { core = both s.hub ends; channel = waiting p c })))
-    (set_changed server new_channel (waiting p) s.channels)
+    (set_changed server blank_end (waiting p) s.channels)
     ∙ ap (back server) (bytes_image (rest_ears server) (rest_answer server) (λ (r : BytesState). r) p
     (λ r. refl) (λ h r. refl) (λ h r. refl) bytes (apart server c s))
     ∙ ap (both n.core.hub) (sym (changed_set server n.channel (waiting p) n.core.channels))
@@ -98,7 +99,7 @@ other_held None conn server bytes p s differs = refl
 other_held (Some c) conn server bytes p s differs =
     let n : NodeState BytesState = node_then conn bytes (apart conn c s) in
     ap (λ (ends : Ends). back conn (node_then conn bytes (record { core = both s.hub ends; channel = c })))
-    (set_elsewhere conn server new_channel (waiting p) s.channels differs)
+    (set_elsewhere conn server blank_end (waiting p) s.channels differs)
     ∙ ap (back conn) (bytes_image (rest_ears conn) (rest_answer conn) (held server p) []
     (λ r. refl) (λ h r. refl)
     (λ h r. ap (both (heard conn h r.hub).client) (others_held conn (heard conn h r.hub).orders server p r.channels))
@@ -122,9 +123,9 @@ taken_held conn server bytes p s = taken_by_place conn server bytes p s (same_or
 -- ---- events
 
 renewed_by : (b : Bool) (other server : ℕ) (p : List ℕ) (ends : Ends) → server ≢ other
-    → cond b (with_end other new_channel (change (at server) (waiting p) ends)) (change (at server) (waiting p) ends)
-    ≡ change (at server) (waiting p) (cond b (with_end other new_channel ends) ends)
-renewed_by true other server p ends differs = set_elsewhere other server new_channel (waiting p) ends (λ e. differs (sym e))
+    → cond b (with_end other (new_channel sides.Client) (change (at server) (waiting p) ends)) (change (at server) (waiting p) ends)
+    ≡ change (at server) (waiting p) (cond b (with_end other (new_channel sides.Client) ends) ends)
+renewed_by true other server p ends differs = set_elsewhere other server (new_channel sides.Client) (waiting p) ends (λ e. differs (sym e))
 renewed_by false other server p ends differs = refl
 
 happened_held : (e : ClientEvent) (server : ℕ) (p : List ℕ) (s : BytesState) → IsNoOpening server e

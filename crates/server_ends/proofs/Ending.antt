@@ -7,9 +7,10 @@ use Rattle.std.specs.BTreeMap.{insert_entry, is_at}
 use Rattle.std.specs.Map.{keys_of, remove_entry, set_value}
 use Rattle.set_model.specs.declared.source.Change.{Change}
 use Rattle.ua_channel.specs.declared.wire.Order.{Order}
-use Rattle.ua_channel.specs.State.{ChannelState, new_channel}
+use Rattle.ua_channel.specs.declared.side.Side.TheVariants as sides
+use Rattle.ua_channel.specs.State.{ChannelState, blank_end, new_channel}
 use Rattle.ua_channel.specs.Node.{NodeState, node_after}
-use Rattle.ua_channel.specs.Sharing.{Ends, end_at, obeyed_at, obeyed_by, others, taken_by}
+use Rattle.ua_channel.specs.Sharing.{Ends, end_at, obeyed_at, obeyed_by, obeyed_each, others, taken_by}
 use Rattle.server_rules.specs.declared.config.ServerConfig.{ServerConfig}
 use Rattle.server_rules.specs.declared.conn.Conn.{Conn}
 use Rattle.server_rules.specs.State.{ServerState, conn_at, is_conn}
@@ -20,7 +21,7 @@ use Rattle.server_laws.specs.Numbers.{AreAbove, RiseTo, conn_numbers, highest_af
 use Rattle.ua_server.specs.declared.event.ServerEvent.{ServerEvent}
 use Rattle.ua_server.specs.declared.event.ServerEvent.TheVariants as event_as
 use Rattle.ua_server.specs.State.{BytesState, new_bytes}
-use Rattle.ua_server.specs.Step.{apart, end_closed, end_opened, ends_of, obeyed_each, put_ends, rest_answer, rest_ears, stepped, taken, with_ends}
+use Rattle.ua_server.specs.Step.{apart, end_closed, end_opened, ends_of, put_ends, rest_answer, rest_ears, stepped, taken, with_ends}
 use Rattle.ua_server.proofs.Keeping.{bytes_keep}
 use Rattle.server_ends.specs.Matching.{Matches, bytes_after, end_numbers}
 
@@ -110,8 +111,8 @@ none_under number (e ∷ es) h =
 
 opened_keys : (number : ℕ) (es : Ends) → AllUnder number (keys_of es) → keys_of (end_opened number es) ≡ keys_of es ++ number ∷ []
 opened_keys number es h =
-    ap (λ (found : Option ChannelState). keys_of (cond (is_some found) es (insert_entry nat_cmp es number new_channel))) (none_under number es h)
-    ∙ new_keys number es new_channel h
+    ap (λ (found : Option ChannelState). keys_of (cond (is_some found) es (insert_entry nat_cmp es number (new_channel sides.Server)))) (none_under number es h)
+    ∙ new_keys number es (new_channel sides.Server) h
 
 opened_by : Knows → (b : Bool) (number : ℕ) (s : BytesState) → is_above s.hub.highest number ≡ b → Matches s
     → Matches (cond b (with_ends (end_opened number s.channels) (after (Opens number) s.hub)) s)
@@ -195,7 +196,7 @@ bytes_by law (Some c) conn bytes s h =
     let numbers : conn_numbers now.core.hub ≡ conn_numbers s.hub = core_numbers law conn bytes before in
     record {
       same = set_keys (is_at (nat_cmp conn)) now.core.channels now.channel ∙ core_keys conn bytes before
-          ∙ set_keys (is_at (nat_cmp conn)) s.channels new_channel ∙ h.same ∙ sym numbers;
+          ∙ set_keys (is_at (nat_cmp conn)) s.channels blank_end ∙ h.same ∙ sym numbers;
       rise = subst (λ highest. RiseTo highest (conn_numbers now.core.hub)) (sym (core_highest law conn bytes before))
           (subst (RiseTo s.hub.highest) (sym numbers) h.rise);
     }

@@ -13,7 +13,7 @@ use Rattle.ua_chunks.specs.Sending.{Part, Sending, after_parts, limit_of, parts_
 use Rattle.ua_channel.specs.declared.heard.Heard.{Heard}
 use Rattle.ua_channel.specs.declared.heard.Heard.TheVariants as heard
 use Rattle.ua_channel.specs.declared.wire.Order.{Order}
-use Rattle.ua_channel.specs.State.{is_deaf, new_channel}
+use Rattle.ua_channel.specs.State.{first_sending, is_deaf}
 use Rattle.ua_channel.specs.Arriving.{AreLawful, IsLawfulOrder, after_order}
 use Rattle.ua_channel.specs.Sharing.{own, own_first}
 use Rattle.ua_services.specs.Families.{written_reply}
@@ -248,8 +248,8 @@ pub orders_lawful : (number : ℕ) (sending : Sending) (happening : Happening) (
     → HasLimit number (limit_of sending) s → IsLawfulOn number sending (after happening s)
 orders_lawful number sending happening s fits happens other h = after_lawful number sending happening s (after_keeps happening s fits happens) other h
 
-pub opens_lawful : (number : ℕ) (s : ServerState) → conn_at number s.conns ≡ None → HasLimit number (limit_of new_channel.sending) (after (Opens number) s).state
+pub opens_lawful : (number : ℕ) (s : ServerState) → conn_at number s.conns ≡ None → HasLimit number (limit_of first_sending) (after (Opens number) s).state
 opens_lawful number s none =
-    let has : HasLimit number (limit_of new_channel.sending) s = subst (λ o. IfSome o (λ (c : Conn). c.limit ≡ limit_of new_channel.sending)) (sym none) tt in
-    let short = opened_short number (limit_of new_channel.sending) number s (inr refl) has in
+    let has : HasLimit number (limit_of first_sending) s = subst (λ o. IfSome o (λ (c : Conn). c.limit ≡ limit_of first_sending)) (sym none) tt in
+    let short = opened_short number (limit_of first_sending) number s (inr refl) has in
     short.known

@@ -76,7 +76,7 @@ use Rattle.ua_session_msgs.specs.Structures.{a_channel_security_token, an_open_s
 use Rattle.ua_session_msgs.specs.declared.channel.OpenSecureChannelResponse.{OpenSecureChannelResponse}
 use Rattle.ua_services.specs.Families.{written_reply}
 use Rattle.ua_chunks.specs.Sending.{limit_of}
-use Rattle.ua_channel.specs.State.{new_channel}
+use Rattle.ua_channel.specs.State.{first_sending}
 use Rattle.server_keeps.specs.Lawful.{HasLimit}
 use Rattle.server_keeps.proofs.Lists.{all_join, choice}
 
@@ -835,7 +835,7 @@ module _ (number limit : ℕ) where
       by_test true test rest = subst (λ b. AtLimit (cond b (Some one) (conn_at number conns))) test h
       by_test false test rest = rest (subst (λ b. AtLimit (cond b (Some one) (conn_at number conns))) test h)
 
-  pub opened_short : (n : ℕ) (s : ServerState) → (is_conn number (new_conn n (first_ear s.conns)) ≡ false) ⊎ (limit_of new_channel.sending ≡ limit) → Has s
+  pub opened_short : (n : ℕ) (s : ServerState) → (is_conn number (new_conn n (first_ear s.conns)) ≡ false) ⊎ (limit_of first_sending ≡ limit) → Has s
       → IsShort (opened n s)
   unfolding opened
   opened_short n s which h =

@@ -3,7 +3,7 @@ ghost use Rattle.std.specs.Prelude.{◌≡◌, ◌<◌, ◌^◌, ℕ, List, None
 ghost use Rattle.std.specs.List.{AllByRecursion};
 ghost use Rattle.set_model.specs.declared.source.Change.{Change};
 ghost use Rattle.ua_chunks.specs.Sending.{Sending, limit_of};
-ghost use Rattle.ua_channel.specs.State.{new_channel};
+ghost use Rattle.ua_channel.specs.State.{first_sending};
 ghost use Rattle.ua_channel.specs.declared.heard.Heard.TheVariants as heard;
 ghost use Rattle.ua_session_msgs.specs.declared.channel.OpenSecureChannelRequest.{OpenSecureChannelRequest};
 ghost use Rattle.ua_session_msgs.specs.declared.request.SessionRequest.TheVariants as session_request;
@@ -54,7 +54,7 @@ pub fn what_is_put_is_read_again()
 /// knows of it, and what happens next leaves it so.
 pub fn orders_are_lawful()
     ensures opens { (number : ℕ) (s : ServerState) → conn_at number s.conns ≡ None
-        → HasLimit number (limit_of new_channel.sending) (after (Opens number) s).state }
+        → HasLimit number (limit_of first_sending) (after (Opens number) s).state }
     ensures step { (number : ℕ) (sending : Sending) (happening : Happening) (s : ServerState) → FitsServer s
         → FitsHappening happening → OpensOther number happening → HasLimit number (limit_of sending) s
         → IsLawfulOn number sending (after happening s) }

@@ -9,7 +9,7 @@ use Rattle.ua_channel.specs.declared.ear.Ear.{Ear}
 use Rattle.ua_channel.specs.declared.ear.Ear.TheVariants as ear
 use Rattle.ua_channel.specs.declared.heard.Heard.{Heard}
 use Rattle.ua_channel.specs.declared.heard.Heard.TheVariants as heard
-use Rattle.ua_channel.specs.State.{LimitState, new_channel}
+use Rattle.ua_channel.specs.State.{LimitState, first_sending}
 use Rattle.sessions.specs.Table.{unbound}
 use Rattle.server_rules.specs.declared.conn.Conn.{Conn}
 use Rattle.server_rules.specs.State.{ServerState, conn_at, is_conn, with_conn}
@@ -23,7 +23,7 @@ use Rattle.server_rules.specs.Requests.{requested}
 -- with an end that puts as a new one does
 abbrev pub new_conn : ℕ → Ear → Conn
 new_conn number ear =
-    record { number = number; ear = ear; limit = limit_of new_channel.sending; channel = 0; token = 0 }
+    record { number = number; ear = ear; limit = limit_of first_sending; channel = 0; token = 0 }
 
 -- of 32 connections at the most something is heard, those among them that are deaf
 abbrev pub first_ear : List Conn → Ear
@@ -79,7 +79,7 @@ limits_of hello =
 
 -- what an end with these limits puts of a body
 abbrev pub limit_with : LimitState → ℕ
-limit_with limits = limit_of (with_limits limits.size limits.max_message limits.max_chunks new_channel.sending)
+limit_with limits = limit_of (with_limits limits.size limits.max_message limits.max_chunks first_sending)
 
 abbrev pub greeted : Greeting → Conn → Conn
 greeted hello conn = record conn { ear = ear.Opening; limit = limit_with (limits_of hello) }

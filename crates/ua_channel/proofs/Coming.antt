@@ -3,6 +3,7 @@ use Rattle.std.proofs.Common.{◌≡◌, ◌⊎◌, ℕ, ◌==◌, Bool, true, f
 use Rattle.std.specs.List.{AllByRecursion}
 use Rattle.std.proofs.lemmas.Bool.Decides.{nat_tests}
 use Rattle.ua_base.specs.Status.{bad_secure_channel_token_unknown, bad_tcp_message_type_invalid, bad_tcp_secure_channel_unknown}
+use Rattle.ua_values.specs.Reading.{input}
 use Rattle.ua_chunks.specs.declared.frame.Kind.{Kind}
 use Rattle.ua_chunks.specs.declared.frame.Kind.TheVariants as kind
 use Rattle.ua_chunks.specs.declared.frame.Frame.{Frame}
@@ -13,6 +14,7 @@ use Rattle.ua_chunks.specs.Framing.{Brings, Framing, IsBetween, frames_of}
 use Rattle.ua_chunks.specs.Assembly.{Assembly, Leads, RefusesFirst, Tokens, after_frame, assembled, message_of, takes_number, takes_token, tokens_of, used, with_number}
 use Rattle.ua_base.specs.Number.{after_chunk}
 use Rattle.ua_chunks.specs.Sending.{Sending, after_put, opn_part, parts_of}
+use Rattle.ua_chunks.specs.Bodies.{policy_at, value_of}
 use Rattle.ua_chunks.specs.Arrival.{InStep, IsPut, message_put, placed}
 use Rattle.ua_chunks.proofs.Arriving.{number_follows, same_number}
 use Rattle.ua_chunks.proofs.BodyLaws.{opn_again, policy_again}
@@ -24,8 +26,10 @@ use Rattle.ua_channel.specs.declared.heard.Heard.{Heard}
 use Rattle.ua_channel.specs.declared.heard.Heard.TheVariants as said
 use Rattle.ua_channel.specs.declared.wire.Order.{Order}
 use Rattle.ua_channel.specs.declared.wire.Order.TheVariants as order
+use Rattle.ua_channel.specs.declared.side.Side.{Side}
+use Rattle.ua_channel.specs.declared.side.Side.TheVariants as sides
 use Rattle.ua_channel.specs.State.{ChannelState, MayCarry, WireState, is_deaf, kept, kept_by, shut}
-use Rattle.ua_channel.specs.Hearing.{Hearing, chunk_heard, chunk_said, hearing, heard_of, message_said, number_taken, opened, says, takes, with_assembly, with_policy}
+use Rattle.ua_channel.specs.Hearing.{Hearing, chunk_heard, chunk_said, hearing, heard_of, message_said, number_taken, opened, opening_heard, opening_read, says, takes, with_assembly, with_policy}
 use Rattle.ua_channel.specs.Orders.{done, fits, fits_in, obeyed_all, put_on, undone, wire_parts, wire_parts_by}
 use Rattle.ua_channel.specs.Messages.{Judged, hearing_of, judged_by, judges, message_of_channel}
 use Rattle.ua_channel.specs.Arriving.{Arrive, Expects, Follows, SameButPart, Sent, after_sent, assembly_after, bytes_of, heard_all, heard_in, heard_next, past, sent_bytes}
@@ -57,17 +61,17 @@ forgets (o ∷ os) f g a b c = forgets_by (fits_in o c.sending) o os f g a b c (
 
 -- ---- a frame and a message, judged
 
-frame_takes : (e : Ear) (f : Frame) (a : Assembly) (k : Kind) → f.kind ≡ k → takes e k ≡ true → hearing e f a ≡ heard_of k f a
+frame_takes : (d : Side) (e : Ear) (f : Frame) (a : Assembly) (k : Kind) → f.kind ≡ k → takes e k ≡ true → hearing d e f a ≡ heard_of d k f a
 unfolding hearing
-frame_takes e f a k same is =
-    ap (λ (j : Kind). cond (takes e j) (heard_of j f a) (says (said.Fault bad_tcp_message_type_invalid) a)) same
-    ∙ ap (λ b. cond b (heard_of k f a) (says (said.Fault bad_tcp_message_type_invalid) a)) is
+frame_takes d e f a k same is =
+    ap (λ (j : Kind). cond (takes e j) (heard_of d j f a) (says (said.Fault bad_tcp_message_type_invalid) a)) same
+    ∙ ap (λ b. cond b (heard_of d k f a) (says (said.Fault bad_tcp_message_type_invalid) a)) is
 
-frame_refused : (e : Ear) (f : Frame) (a : Assembly) (k : Kind) → f.kind ≡ k → takes e k ≡ false → hearing e f a ≡ says (said.Fault bad_tcp_message_type_invalid) a
+frame_refused : (d : Side) (e : Ear) (f : Frame) (a : Assembly) (k : Kind) → f.kind ≡ k → takes e k ≡ false → hearing d e f a ≡ says (said.Fault bad_tcp_message_type_invalid) a
 unfolding hearing
-frame_refused e f a k same is =
-    ap (λ (j : Kind). cond (takes e j) (heard_of j f a) (says (said.Fault bad_tcp_message_type_invalid) a)) same
-    ∙ ap (λ b. cond b (heard_of k f a) (says (said.Fault bad_tcp_message_type_invalid) a)) is
+frame_refused d e f a k same is =
+    ap (λ (j : Kind). cond (takes e j) (heard_of d j f a) (says (said.Fault bad_tcp_message_type_invalid) a)) same
+    ∙ ap (λ b. cond b (heard_of d k f a) (says (said.Fault bad_tcp_message_type_invalid) a)) is
 
 wire_takes : (e : Ear) (w : WireState) (t : Tokens) (k : Kind) → w.kind ≡ k → takes e k ≡ true → hearing_of e w t ≡ judged_by k w t
 unfolding hearing_of
@@ -80,6 +84,12 @@ unfolding hearing_of
 wire_refused e w t k same is =
     ap (λ (j : Kind). cond (takes e j) (judged_by j w t) (judges (said.Fault bad_tcp_message_type_invalid) t)) same
     ∙ ap (λ b. cond b (judged_by k w t) (judges (said.Fault bad_tcp_message_type_invalid) t)) is
+
+-- an OPN without security is read by both sides
+side_reads : (d : Side) (body : List ℕ) (a : Assembly) → with_policy (value_of (policy_at (input 0 body))) body a ≡ opening_read body a
+    → opening_heard d body a ≡ opening_read body a
+side_reads sides.Client body a is = refl
+side_reads sides.Server body a is = is
 
 no_err : (e : Ear) → takes e kind.Err ≡ true → ⊥
 no_err ear.Hello is = absurd cc
@@ -97,9 +107,9 @@ nothing_said kind.Opn = refl
 nothing_said kind.Msg = refl
 nothing_said kind.Clo = refl
 
-chunk_of : (k : Kind) (f : Frame) (a : Assembly) → (k ≡ kind.Msg) ⊎ (k ≡ kind.Clo) → heard_of k f a ≡ chunk_heard k f a
-chunk_of k f a (inl e) = subst (λ k. heard_of k f a ≡ chunk_heard k f a) (sym e) refl
-chunk_of k f a (inr e) = subst (λ k. heard_of k f a ≡ chunk_heard k f a) (sym e) refl
+chunk_of : (d : Side) (k : Kind) (f : Frame) (a : Assembly) → (k ≡ kind.Msg) ⊎ (k ≡ kind.Clo) → heard_of d k f a ≡ chunk_heard k f a
+chunk_of d k f a (inl e) = subst (λ k. heard_of d k f a ≡ chunk_heard k f a) (sym e) refl
+chunk_of d k f a (inr e) = subst (λ k. heard_of d k f a ≡ chunk_heard k f a) (sym e) refl
 
 -- ---- what is left, where nothing was wrong
 
@@ -136,7 +146,7 @@ module _ {C : Type 0} (ears : C → Ear) (answer : Heard → C → C × List Ord
       ∙ sym (settled_shut ears answer (answered ears answer h (record { core = core; channel = record c { framing = g; assembly = b } })) e)
 
   -- a frame of which something is heard
-  pub frame_says : (f : Frame) (n : NodeState C) (h : Heard) (a : Assembly) → deaf ears answer n ≡ false → hearing (ears n.core) f n.channel.assembly ≡ says h a
+  pub frame_says : (f : Frame) (n : NodeState C) (h : Heard) (a : Assembly) → deaf ears answer n ≡ false → hearing n.channel.side (ears n.core) f n.channel.assembly ≡ says h a
       → with_frame ears answer f n ≡ told ears answer h (record n { channel = with_assembly a n.channel })
   frame_says f n h a e is = open_frame ears answer f n e ∙ ap (λ (x : Hearing). after_hearing ears answer x n) is
 
@@ -184,7 +194,7 @@ module _ {C : Type 0} (ears : C → Ear) (answer : Heard → C → C × List Ord
   Both h a m frames n = Tells h a m frames n × Hushed frames n
 
   refused : (code : ℕ) (m : Sent) (x : Frame) (xs : List Frame) (n : NodeState C) (a b : Assembly) → deaf ears answer n ≡ false → Deafens ears answer
-      → hearing (ears n.core) x n.channel.assembly ≡ says (said.Fault code) b → Both (said.Fault code) a m (x ∷ xs) n
+      → hearing n.channel.side (ears n.core) x n.channel.assembly ≡ says (said.Fault code) b → Both (said.Fault code) a m (x ∷ xs) n
   refused code m x xs n a b e deafens is =
       let k = moved_node (length (sent_bytes m)) n in
       let t = record k { channel = with_assembly b k.channel } in
@@ -207,7 +217,7 @@ module _ {C : Type 0} (ears : C → Ear) (answer : Heard → C → C × List Ord
       let u = uncons frames (parts.some n.channel.framing.place) in
       let kinds = subst (λ fs. AllByRecursion (λ (f : Frame). f.kind ≡ k) fs) u.2 (parts.kinds n.channel.framing.place) in
       subst (λ fs. Both (said.Fault bad_tcp_message_type_invalid) a m fs n) (sym u.2)
-      (refused bad_tcp_message_type_invalid m u.0 u.1 n a n.channel.assembly e deafens (frame_refused (ears n.core) u.0 n.channel.assembly k kinds.0 other))
+      (refused bad_tcp_message_type_invalid m u.0 u.1 n a n.channel.assembly e deafens (frame_refused n.channel.side (ears n.core) u.0 n.channel.assembly k kinds.0 other))
 
   -- the first chunk breaks a rule of the channel
   pub chunk_refused : (k : Kind) (code place : ℕ) (m : Sent) (n : NodeState C) (a : Assembly) (frames : List Frame) → (k ≡ kind.Msg) ⊎ (k ≡ kind.Clo)
@@ -216,9 +226,9 @@ module _ {C : Type 0} (ears : C → Ear) (answer : Heard → C → C × List Ord
   chunk_refused k code place m n a frames is e deafens taken kinds r =
       let b = n.channel.assembly in
       let first = subst (λ fs. AllByRecursion (λ (f : Frame). f.kind ≡ k) fs) r.are kinds in
-      let hears : hearing (ears n.core) r.first b ≡ says (said.Fault code) (after_frame r.first b) =
-      frame_takes (ears n.core) r.first b k first.0 taken
-      ∙ chunk_of k r.first b is
+      let hears : hearing n.channel.side (ears n.core) r.first b ≡ says (said.Fault code) (after_frame r.first b) =
+      frame_takes n.channel.side (ears n.core) r.first b k first.0 taken
+      ∙ chunk_of n.channel.side k r.first b is
       ∙ ap (λ (o : Option MessageFault). record { heard = chunk_said o k r.first b; assembly = after_frame r.first b }) r.breaks in
       subst (λ fs. Both (said.Fault code) a m fs n) (sym r.are)
       (refused code m r.first r.others n a (after_frame r.first b) e deafens hears)
@@ -231,16 +241,16 @@ module _ {C : Type 0} (ears : C → Ear) (answer : Heard → C → C × List Ord
   led k x h (f ∷ fs) n is e taken kinds says_it leads =
       let a = n.channel.assembly in
       let b = after_frame f a in
-      let hears : hearing (ears n.core) f a ≡ record { heard = message_said k (message_of f a); assembly = b } =
-      frame_takes (ears n.core) f a k kinds.0 taken
-      ∙ chunk_of k f a is
+      let hears : hearing n.channel.side (ears n.core) f a ≡ record { heard = message_said k (message_of f a); assembly = b } =
+      frame_takes n.channel.side (ears n.core) f a k kinds.0 taken
+      ∙ chunk_of n.channel.side k f a is
       ∙ ap (λ (o : Option MessageFault). record { heard = chunk_said o k f a; assembly = b }) leads.0 in
       elim leads.1 [
         | inl last ↦
             subst (λ fs. with_frames ears answer (f ∷ fs) n ≡ told ears answer h (record n { channel = with_assembly (assembled (f ∷ fs) a) n.channel })) (sym last.0)
             (frame_says f n h b e (hears ∙ ap (λ (o : Option Message). record { heard = message_said k o; assembly = b }) last.1 ∙ ap (λ (o : Option Heard). record { heard = o; assembly = b }) says_it))
         | inr more ↦
-            let quiet : hearing (ears n.core) f a ≡ record { heard = None; assembly = b } =
+            let quiet : hearing n.channel.side (ears n.core) f a ≡ record { heard = None; assembly = b } =
             hears
             ∙ ap (λ (o : Option Message). record { heard = message_said k o; assembly = b }) more.0
             ∙ ap (λ (o : Option Heard). record { heard = o; assembly = b }) (nothing_said k) in
@@ -260,8 +270,8 @@ module _ {C : Type 0} (ears : C → Ear) (answer : Heard → C → C × List Ord
         let same : with_frame ears answer f n ≡ next =
         open_frame ears answer f n e
         ∙ ap (λ (y : Hearing). after_hearing ears answer y n)
-        (frame_takes (ears n.core) f a k kinds.0 taken
-        ∙ chunk_of k f a is
+        (frame_takes n.channel.side (ears n.core) f a k kinds.0 taken
+        ∙ chunk_of n.channel.side k f a is
         ∙ ap (λ (o : Option MessageFault). record { heard = chunk_said o k f a; assembly = b }) leads.0
         ∙ ap (λ (o : Option Message). record { heard = message_said k o; assembly = b }) more.0
         ∙ ap (λ (o : Option Heard). record { heard = o; assembly = b }) (nothing_said k)) in
@@ -304,7 +314,7 @@ module _ {C : Type 0} (ears : C → Ear) (answer : Heard → C → C × List Ord
 
   -- a greeting
   greeting_hears : (h : Heard) (k : Kind) (m : Sent) (n : NodeState C) (x : Frame) → m.wire.kind ≡ k → deaf ears answer n ≡ false → Follows m n.channel → takes (ears n.core) k ≡ true
-      → placed n.channel.framing.place (wire_parts_by k m.wire m.by) ≡ x ∷ [] → x.kind ≡ k → heard_of k x n.channel.assembly ≡ says h n.channel.assembly
+      → placed n.channel.framing.place (wire_parts_by k m.wire m.by) ≡ x ∷ [] → x.kind ≡ k → heard_of n.channel.side k x n.channel.assembly ≡ says h n.channel.assembly
       → judged_by k m.wire (tokens_of n.channel.assembly) ≡ judges h (tokens_of n.channel.assembly)
       → assembly_after k m n.channel.framing.place n.channel.assembly ≡ n.channel.assembly → after_sent m ≡ m.by → Hears k m n
   greeting_hears h k m n x same e follows taken are kind_is frame_is wire_is left stays =
@@ -312,7 +322,7 @@ module _ {C : Type 0} (ears : C → Ear) (answer : Heard → C → C × List Ord
       hears_message k h (tokens_of a) m n (wire_takes (ears n.core) m.wire (tokens_of a) k same taken ∙ wire_is)
       (subst (λ fs. Tells h (assembly_after k m n.channel.framing.place a) m fs n) (sym are)
       (subst (λ b. Tells h b m (x ∷ []) n) (sym left)
-      (frame_says x (moved_node (length (sent_bytes m)) n) h a e (frame_takes (ears n.core) x a k kind_is taken ∙ frame_is))))
+      (frame_says x (moved_node (length (sent_bytes m)) n) h a e (frame_takes n.channel.side (ears n.core) x a k kind_is taken ∙ frame_is))))
       (subst (λ fs. Hushed fs n) (sym are) (inl refl))
       (subst (λ b. Goes m n.channel b (tokens_of a)) (sym left) (greeting_goes k m n.channel same stays follows.expects))
 
@@ -325,14 +335,14 @@ module _ {C : Type 0} (ears : C → Ear) (answer : Heard → C → C × List Ord
       let h = said.Opening w.channel true w.request w.body in
       let x : Frame = record { place = n.channel.framing.place; kind = kind.Opn; chunk = (opn_part w.request w.body s).chunk; body = body } in
       let sent = follows.sent in
-      let reads : heard_of kind.Opn x a ≡ says h (with_number s.next a) =
-      ap (λ r. with_policy r body a) (policy_again w.request w.body s sent.sending sent.request)
+      let reads : heard_of n.channel.side kind.Opn x a ≡ says h (with_number s.next a) =
+      side_reads n.channel.side body a (ap (λ r. with_policy r body a) (policy_again w.request w.body s sent.sending sent.request))
       ∙ ap (λ r. opened r a) (opn_again w.request w.body s sent.sending sent.request)
       ∙ ap (λ b. says (said.Opening s.channel b w.request w.body) (number_taken b s.next a)) follows.expects.number
       ∙ ap (λ (c : ℕ). says (said.Opening c true w.request w.body) (with_number s.next a)) (sym sent.channel) in
       let next : after_sent m ≡ record s { next = after_chunk s.next } = ap (λ (k : Kind). after_put k w.request w.body s) same in
       hears_message kind.Opn h (tokens_of a) m n (wire_takes (ears n.core) w (tokens_of a) kind.Opn same taken)
-      (frame_says x (moved_node (length (sent_bytes m)) n) h (with_number s.next a) e (frame_takes (ears n.core) x a kind.Opn refl taken ∙ reads))
+      (frame_says x (moved_node (length (sent_bytes m)) n) h (with_number s.next a) e (frame_takes n.channel.side (ears n.core) x a kind.Opn refl taken ∙ reads))
       (inl refl)
       (record {
         expects = record {

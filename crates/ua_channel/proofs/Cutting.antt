@@ -88,12 +88,12 @@ module _ {C : Type 0} (ears : C → Ear) (answer : Heard → C → C × List Ord
 
   pub deaf_frame : (x : Frame) (n : NodeState C) → deaf ears answer n ≡ true → with_frame ears answer x n ≡ n
   unfolding with_frame
-  deaf_frame x n e = ap (λ b. cond b n (after_hearing ears answer (hearing (ears n.core) x n.channel.assembly) n)) e
+  deaf_frame x n e = ap (λ b. cond b n (after_hearing ears answer (hearing n.channel.side (ears n.core) x n.channel.assembly) n)) e
 
   pub open_frame : (x : Frame) (n : NodeState C) → deaf ears answer n ≡ false
-      → with_frame ears answer x n ≡ after_hearing ears answer (hearing (ears n.core) x n.channel.assembly) n
+      → with_frame ears answer x n ≡ after_hearing ears answer (hearing n.channel.side (ears n.core) x n.channel.assembly) n
   unfolding with_frame
-  open_frame x n e = ap (λ b. cond b n (after_hearing ears answer (hearing (ears n.core) x n.channel.assembly) n)) e
+  open_frame x n e = ap (λ b. cond b n (after_hearing ears answer (hearing n.channel.side (ears n.core) x n.channel.assembly) n)) e
 
   frame_by : (b : Bool) (x : Frame) (f : Framing) (n : NodeState C) → deaf ears answer n ≡ b
       → with_frame ears answer x (reframed f n) ≡ reframed f (with_frame ears answer x n)
@@ -103,7 +103,7 @@ module _ {C : Type 0} (ears : C → Ear) (answer : Heard → C → C × List Ord
       ∙ sym (reframed_deaf f n e)
       ∙ ap (reframed f) (sym (deaf_frame x n e))
   frame_by false x f n e =
-      let h = hearing (ears n.core) x n.channel.assembly in
+      let h = hearing n.channel.side (ears n.core) x n.channel.assembly in
       ap (with_frame ears answer x) (reframed_open f n e)
       ∙ open_frame x (reframe f n) e
       ∙ heard_by h.heard f (record n { channel = with_assembly h.assembly n.channel }) e

@@ -5,4 +5,5 @@ pub mod Coming
 pub mod Showing
 pub mod Beginning
 pub mod Sharings
+pub mod OneEnd
 pub mod Chaining

@@ -7,7 +7,7 @@ use Rattle.ua_channel.specs.declared.ear.Ear.{Ear}
 use Rattle.ua_channel.specs.declared.heard.Heard.{Heard}
 use Rattle.ua_channel.specs.declared.hub.Rest.{Rest}
 use Rattle.ua_channel.specs.declared.wire.Order.{Order}
-use Rattle.ua_channel.specs.State.{ChannelState, new_channel}
+use Rattle.ua_channel.specs.State.{ChannelState, blank_end}
 use Rattle.ua_channel.specs.Orders.{obeyed}
 use Rattle.ua_channel.specs.Sharing.{Ends, end_at, obeyed_at, obeyed_by, others, own, put_back, taken_at, taken_by, with_end}
 use Rattle.ua_channel.specs.Node.{node_after, node_of}
@@ -42,7 +42,7 @@ obeyed_there number order ends blank is = there_by (end_at number ends) number o
 -- ---- bytes for an end that is there
 
 module _ {C : Type 0} (ears : C → Ear) (answer : Heard → C → C × List Order) (ends : C → Ends) (with_ends : Ends → C → C) where
-  taken_there : (o : Option ChannelState) (conn : ℕ) (bytes : List ℕ) (r : C) (blank : ChannelState) → is_some o ≡ true → blank ≡ new_channel
+  taken_there : (o : Option ChannelState) (conn : ℕ) (bytes : List ℕ) (r : C) (blank : ChannelState) → is_some o ≡ true → blank ≡ blank_end
       → put_back ears answer ends with_ends conn (node_after ears answer bytes (node_of (with_ends (with_end conn blank (ends r)) r) (unwrap_or o blank)))
       ≡ taken_by ears answer ends with_ends o conn bytes r
   taken_there None conn bytes r blank is e = absurd cc
@@ -62,7 +62,7 @@ module _ {H : Type 0} (ears : ℕ → H → Ear) (answers : ℕ → Heard → H 
   abbrev pub rest_with : Ends → Rest H → Rest H
   rest_with ends r = record r { channels = ends }
 
-  pub taken_is : (bytes : List ℕ) (old new : Rest H) (middle back : Ends) (blank former left : ChannelState) → is_some (end_at conn old.channels) ≡ true → blank ≡ new_channel
+  pub taken_is : (bytes : List ℕ) (old new : Rest H) (middle back : Ends) (blank former left : ChannelState) → is_some (end_at conn old.channels) ≡ true → blank ≡ blank_end
       → middle ≡ with_end conn blank old.channels
       → former ≡ unwrap_or (end_at conn old.channels) blank
       → node_of new left ≡ node_after rest_ears rest_answer bytes (node_of (rest_with middle old) former)

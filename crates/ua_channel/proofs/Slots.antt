@@ -4,7 +4,7 @@ use Rattle.std.specs.Ordering.{match_ordering}
 use Rattle.std.specs.BTreeMap.{insert_entry}
 use Rattle.std.specs.Map.{lookup, remove_entry, set_value}
 use Rattle.slab.specs.Slab.{Slab, get}
-use Rattle.ua_channel.specs.State.{ChannelState, new_channel}
+use Rattle.ua_channel.specs.State.{ChannelState, blank_end}
 use Rattle.ua_channel.specs.Connections.{AreHeld, NotAmong, channel_in, shown}
 
 abbrev pub Keys : Type 0
@@ -17,11 +17,11 @@ SameBut key old new = (k : ℕ) → k ≢ key → get new k ≡ get old k
 pub shown_same : (key : ℕ) (es : Keys) (old new : Slab ChannelState) → SameBut key old new → NotAmong key es → shown new es ≡ shown old es
 shown_same key [] old new same apart = refl
 shown_same key (e ∷ es) old new same apart =
-    ap (λ (o : Option ChannelState). (e.0, unwrap_or o new_channel) ∷ shown new es) (same e.1 apart.0)
+    ap (λ (o : Option ChannelState). (e.0, unwrap_or o blank_end) ∷ shown new es) (same e.1 apart.0)
     ∙ ap (λ (l : List (ℕ × ChannelState)). (e.0, channel_in old e.1) ∷ l) (shown_same key es old new same apart.1)
 
 held_one : (key : ℕ) (old new : Slab ChannelState) → get new key ≡ get old key → get old key ≡ Some (channel_in old key) → get new key ≡ Some (channel_in new key)
-held_one key old new same is = same ∙ is ∙ ap (λ (o : Option ChannelState). Some (unwrap_or o new_channel)) (sym same)
+held_one key old new same is = same ∙ is ∙ ap (λ (o : Option ChannelState). Some (unwrap_or o blank_end)) (sym same)
 
 pub held_same : (key : ℕ) (es : Keys) (old new : Slab ChannelState) → SameBut key old new → NotAmong key es → AreHeld old es → AreHeld new es
 held_same key [] old new same apart held = tt
@@ -32,7 +32,7 @@ held_same key (e ∷ es) old new same apart held =
 pub shown_all : (es : Keys) (old new : Slab ChannelState) → ((k : ℕ) → get new k ≡ get old k) → shown new es ≡ shown old es
 shown_all [] old new same = refl
 shown_all (e ∷ es) old new same =
-    ap (λ (o : Option ChannelState). (e.0, unwrap_or o new_channel) ∷ shown new es) (same e.1)
+    ap (λ (o : Option ChannelState). (e.0, unwrap_or o blank_end) ∷ shown new es) (same e.1)
     ∙ ap (λ (l : List (ℕ × ChannelState)). (e.0, channel_in old e.1) ∷ l) (shown_all es old new same)
 
 pub held_all : (es : Keys) (old new : Slab ChannelState) → ((k : ℕ) → get new k ≡ get old k) → AreHeld old es → AreHeld new es
@@ -89,7 +89,7 @@ pub record Sets (t : ℕ → Bool) (es : Keys) (old new : Slab ChannelState) (c 
   pub held : AreHeld new es
 
 in_new : (new : Slab ChannelState) (key : ℕ) (c : ChannelState) → get new key ≡ Some c → channel_in new key ≡ c
-in_new new key c e = ap (λ (o : Option ChannelState). unwrap_or o new_channel) e
+in_new new key c e = ap (λ (o : Option ChannelState). unwrap_or o blank_end) e
 
 is_held : (new : Slab ChannelState) (key : ℕ) (c : ChannelState) → get new key ≡ Some c → get new key ≡ Some (channel_in new key)
 is_held new key c e = e ∙ ap (λ (x : ChannelState). Some x) (sym (in_new new key c e))
@@ -111,7 +111,7 @@ sets_by false t x es key old new c b same is held e others =
     let more = others e in
     let apart : x.1 ≢ key = λ equal. among t es key x.1 e held.1 (sym equal) in
     record {
-      shows = ap (λ (o : Option ChannelState). (x.0, unwrap_or o new_channel) ∷ shown new es) (same x.1 apart)
+      shows = ap (λ (o : Option ChannelState). (x.0, unwrap_or o blank_end) ∷ shown new es) (same x.1 apart)
           ∙ ap (λ (l : List (ℕ × ChannelState)). (x.0, channel_in old x.1) ∷ l) more.shows
           ∙ sym (ap (λ b. cond b ((x.0, c) ∷ shown old es) ((x.0, channel_in old x.1) ∷ set_value t (shown old es) c)) b);
       held = (held_one x.1 old new (same x.1 apart) held.0, held.1, more.held);
@@ -173,7 +173,7 @@ removes_by false t x es key old new b same held e others =
     let apart : x.1 ≢ key = λ equal. among t es key x.1 e held.1 (sym equal) in
     record {
       shows = ap (λ b. shown new (cond b es (x ∷ remove_entry t es))) b
-          ∙ ap (λ (o : Option ChannelState). (x.0, unwrap_or o new_channel) ∷ shown new (remove_entry t es)) (same x.1 apart)
+          ∙ ap (λ (o : Option ChannelState). (x.0, unwrap_or o blank_end) ∷ shown new (remove_entry t es)) (same x.1 apart)
           ∙ ap (λ (l : List (ℕ × ChannelState)). (x.0, channel_in old x.1) ∷ l) more.shows
           ∙ sym (ap (λ b. cond b (shown old es) ((x.0, channel_in old x.1) ∷ remove_entry t (shown old es))) b);
       held = subst (λ b. AreHeld new (cond b es (x ∷ remove_entry t es))) (sym b)
@@ -230,7 +230,7 @@ inserts_by Equal x es fs number key old new m c same is held apart more more_hel
   held = (is_held new key c is, apart.1, held_same key es old new same apart.1 held.2);
 }
 inserts_by Greater x es fs number key old new m c same is held apart more more_held more_apart = record {
-  shows = ap (λ (o : Option ChannelState). (x.0, unwrap_or o new_channel) ∷ shown new fs) (same x.1 apart.0)
+  shows = ap (λ (o : Option ChannelState). (x.0, unwrap_or o blank_end) ∷ shown new fs) (same x.1 apart.0)
       ∙ ap (λ (k : List (ℕ × ChannelState)). (x.0, channel_in old x.1) ∷ k) more;
   held = (held_one x.1 old new (same x.1 apart.0) held.0, more_apart, more_held);
 }

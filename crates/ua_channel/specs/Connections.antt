@@ -1,11 +1,11 @@
 -- The ends of a node's connections: a slab of channels, and an ordered map from each connection's number to its key.
 use Rattle.std.specs.Prelude.{◌≡◌, ◌≢◌, ℕ, List, [], ◌∷◌, Some, unwrap_or}
 use Rattle.slab.specs.Slab.{Slab, get}
-use Rattle.ua_channel.specs.State.{ChannelState, new_channel}
+use Rattle.ua_channel.specs.State.{ChannelState, blank_end}
 
 -- the channel at a key; each key of the map has one
 abbrev pub channel_in : Slab ChannelState → ℕ → ChannelState
-channel_in slots key = unwrap_or (get slots key) new_channel
+channel_in slots key = unwrap_or (get slots key) blank_end
 
 -- each connection's number with its channel, by rising number
 abbrev pub shown : Slab ChannelState → List (ℕ × ℕ) → List (ℕ × ChannelState)

@@ -20,6 +20,8 @@ use Rattle.ua_channel.specs.declared.ear.Ear.{Ear}
 use Rattle.ua_channel.specs.declared.ear.Ear.TheVariants as ear
 use Rattle.ua_channel.specs.declared.heard.Heard.{Heard}
 use Rattle.ua_channel.specs.declared.heard.Heard.TheVariants as said
+use Rattle.ua_channel.specs.declared.side.Side.{Side}
+use Rattle.ua_channel.specs.declared.side.Side.TheVariants as sides
 use Rattle.ua_channel.specs.State.{ChannelState, kept}
 
 -- ---- which frames are taken
@@ -75,6 +77,9 @@ opened (Ok c) a =
     says (said.Opening c.channel (takes_number c.number a.last) c.request c.body)
     (number_taken (takes_number c.number a.last) c.number a)
 
+abbrev pub opening_read : List ℕ → Assembly → Hearing
+opening_read body a = opened (opn_of (opn_head_at (input 0 body))) a
+
 abbrev pub is_none_policy : Option (List ℕ) → Bool
 is_none_policy None = false
 is_none_policy (Some policy) = bytes_eq policy none_policy
@@ -83,24 +88,26 @@ is_none_policy (Some policy) = bytes_eq policy none_policy
 abbrev pub with_policy : Result (Option (List ℕ)) Fault → List ℕ → Assembly → Hearing
 with_policy (Err fault) body a = says (said.Fault bad_decoding_error) a
 with_policy (Ok policy) body a =
-    if is_none_policy policy then opened (opn_of (opn_head_at (input 0 body))) a
+    if is_none_policy policy then opening_read body a
     else says (said.Fault bad_security_policy_rejected) a
 
-abbrev pub opening_heard : List ℕ → Assembly → Hearing
-opening_heard body a = with_policy (value_of (policy_at (input 0 body))) body a
+-- a server judges the policy; a client doesn't, to which the ids in the body count alone
+abbrev pub opening_heard : Side → List ℕ → Assembly → Hearing
+opening_heard sides.Client body a = opening_read body a
+opening_heard sides.Server body a = with_policy (value_of (policy_at (input 0 body))) body a
 
-abbrev pub heard_of : Kind → Frame → Assembly → Hearing
-heard_of kind.Hel f a = says (said.Greeting f.body) a
-heard_of kind.Ack f a = says (said.Greeting f.body) a
-heard_of kind.Err f a = says (said.Fault bad_tcp_message_type_invalid) a
-heard_of kind.Opn f a = opening_heard f.body a
-heard_of kind.Msg f a = chunk_heard kind.Msg f a
-heard_of kind.Clo f a = chunk_heard kind.Clo f a
+abbrev pub heard_of : Side → Kind → Frame → Assembly → Hearing
+heard_of d kind.Hel f a = says (said.Greeting f.body) a
+heard_of d kind.Ack f a = says (said.Greeting f.body) a
+heard_of d kind.Err f a = says (said.Fault bad_tcp_message_type_invalid) a
+heard_of d kind.Opn f a = opening_heard d f.body a
+heard_of d kind.Msg f a = chunk_heard kind.Msg f a
+heard_of d kind.Clo f a = chunk_heard kind.Clo f a
 
 -- a frame of a kind that isn't taken is a fault
-unfoldable pub hearing : Ear → Frame → Assembly → Hearing
-hearing e f a =
-    if takes e f.kind then heard_of f.kind f a
+unfoldable pub hearing : Side → Ear → Frame → Assembly → Hearing
+hearing d e f a =
+    if takes e f.kind then heard_of d f.kind f a
     else says (said.Fault bad_tcp_message_type_invalid) a
 
 -- ---- what a call answers

@@ -48,7 +48,7 @@ module _ {C : Type 0} (ears : C → Ear) (answer : Heard → C → C × List Ord
 
   -- a frame is heard with what the frames before it left: a renewal comes before the next frame
   unfoldable pub with_frame : Frame → NodeState C → NodeState C
-  with_frame f n = if deaf n then n else after_hearing (hearing (ears n.core) f n.channel.assembly) n
+  with_frame f n = if deaf n then n else after_hearing (hearing n.channel.side (ears n.core) f n.channel.assembly) n
 
   abbrev pub with_frames : List Frame → NodeState C → NodeState C
   with_frames [] n = n

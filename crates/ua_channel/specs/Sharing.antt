@@ -6,7 +6,7 @@ use Rattle.std.specs.Map.{lookup, set_value}
 use Rattle.ua_channel.specs.declared.ear.Ear.{Ear}
 use Rattle.ua_channel.specs.declared.heard.Heard.{Heard}
 use Rattle.ua_channel.specs.declared.wire.Order.{Order}
-use Rattle.ua_channel.specs.State.{ChannelState, new_channel}
+use Rattle.ua_channel.specs.State.{ChannelState, blank_end, shut}
 use Rattle.ua_channel.specs.Orders.{obeyed}
 use Rattle.ua_channel.specs.Node.{NodeState, node_after, node_of}
 
@@ -27,6 +27,26 @@ obeyed_by (Some c) number o ends = with_end number (obeyed o c) ends
 
 abbrev pub obeyed_at : ℕ → Order → Ends → Ends
 obeyed_at number o ends = obeyed_by (end_at number ends) number o ends
+
+-- orders with their connections' numbers, in turn
+abbrev pub obeyed_each : List (ℕ × Order) → Ends → Ends
+obeyed_each [] ends = ends
+obeyed_each (o ∷ orders) ends = obeyed_each orders (obeyed_at o.0 o.1 ends)
+
+-- the bytes that weren't taken; of a connection that isn't there none
+abbrev pub out_by : Option ChannelState → List ℕ
+out_by None = []
+out_by (Some c) = c.out
+
+-- they are taken
+abbrev pub emptied_by : Option ChannelState → ℕ → Ends → Ends
+emptied_by None number ends = ends
+emptied_by (Some c) number ends = with_end number (record c { out = [] }) ends
+
+-- nothing is kept of what came
+abbrev pub shut_by : Option ChannelState → ℕ → Ends → Ends
+shut_by None number ends = ends
+shut_by (Some c) number ends = with_end number (shut c) ends
 
 -- of orders with their connections' numbers: those for the connection that is heard, and what the others do
 abbrev pub own_first : ℕ → ℕ × Order → List Order
@@ -52,7 +72,7 @@ module _ {C : Type 0} (ears : C → Ear) (answer : Heard → C → C × List Ord
   abbrev pub taken_by : Option ChannelState → ℕ → List ℕ → C → C
   taken_by None conn bytes r = r
   taken_by (Some c) conn bytes r =
-      put_back conn (node_after ears answer bytes (node_of (with_ends (with_end conn new_channel (ends r)) r) c))
+      put_back conn (node_after ears answer bytes (node_of (with_ends (with_end conn blank_end (ends r)) r) c))
 
   abbrev pub taken_at : ℕ → List ℕ → C → C
   taken_at conn bytes r = taken_by (end_at conn (ends r)) conn bytes r

@@ -8,6 +8,8 @@ use Rattle.ua_chunks.specs.Assembly.{Assembly, new_assembly}
 use Rattle.ua_chunks.specs.Sending.{Sending, new_sending}
 use Rattle.ua_channel.specs.declared.ear.Ear.{Ear}
 use Rattle.ua_channel.specs.declared.ear.Ear.TheVariants as ear
+use Rattle.ua_channel.specs.declared.side.Side.{Side}
+use Rattle.ua_channel.specs.declared.side.Side.TheVariants as sides
 
 -- a whole message: all that its chunks say but their numbers. A HEL, an ACK and an ERR have no channel, token and
 -- request; the body of an OPN, a MSG and a CLO is the spelling of a structure
@@ -34,9 +36,10 @@ pub record LimitState : Type 0 where
   pub max_message : ℕ
   pub max_chunks : ℕ
 
--- the bytes that are in no whole frame, the message that isn't whole, what the next message is put with, and the bytes
--- put that weren't taken
+-- which side of the connection it is, the bytes that are in no whole frame, the message that isn't whole, what the next
+-- message is put with, and the bytes put that weren't taken
 pub record ChannelState : Type 0 where
+  pub side : Side
   pub framing : Framing
   pub assembly : Assembly
   pub sending : Sending
@@ -44,13 +47,21 @@ pub record ChannelState : Type 0 where
 
 -- numbers begin at 1, channel and token are 0 until the first renewal, and the other end takes frames of 8192 bytes,
 -- as each end must (OPC 10000-6, 7.1.2.3)
-abbrev pub new_channel : ChannelState
-new_channel = record {
+abbrev pub first_sending : Sending
+first_sending = new_sending 0 0 8192 0 0
+
+abbrev pub new_channel : Side → ChannelState
+new_channel d = record {
+  side = d;
   framing = new_framing;
   assembly = new_assembly 0 0;
-  sending = new_sending 0 0 8192 0 0;
+  sending = first_sending;
   out = [];
 }
+
+-- what stands in the place of an end that was taken out
+abbrev pub blank_end : ChannelState
+blank_end = new_channel sides.Server
 
 -- ---- deaf ends
 

@@ -8,11 +8,13 @@ ghost use Rattle.ua_channel.specs.Hearing.{opened, opening_heard, with_assembly}
 ghost use Rattle.ua_channel.specs.Orders.{Obeys, fits, put_on};
 ghost use Rattle.ua_channel.specs.State.{held_in, new_channel, shut};
 ghost use Rattle.ua_chunks.specs.declared.frame.Kind.TheVariants as kind;
+ghost use Rattle.ua_channel.specs.declared.side.Side.TheVariants as sides;
 ghost use Rattle.ua_channel.specs.declared.wire.Order.TheVariants as order;
 
 use crate::ear::Ear;
 use crate::fault::ChannelFault;
 use crate::heard::Heard;
+use crate::side::Side;
 use crate::wire::{Order, Wire};
 use std::alloc::Global;
 use std::marker::Model;
@@ -33,6 +35,7 @@ pub const MOST_HELD: usize = 1_114_111;
 /// One end of a connection: it makes frames of bytes, messages of frames, and bytes of messages.
 #[derive(Debug, Drop)]
 pub struct Channel {
+    side: Side,
     framer: Framer,
     assembler: Assembler,
     sender: Sender,
@@ -45,6 +48,7 @@ impl Model for Channel {
     ghost Value = { ChannelState };
 
     ghost view = { λ c. record {
+      side = c.side;
       framing = c.framer;
       assembly = c.assembler;
       sending = c.sender;
@@ -67,10 +71,11 @@ fn is_none_policy(policy: &UaText) -> bool
 impl Channel {
     /// Stands before the first byte of a connection. Until the first renewal it takes and puts messages of channel 0
     /// and token 0, and until the other end's limits come it puts frames of at most 8192 bytes.
-    pub fn new(alloc: Global) -> Channel
-        ensures { result ≡ new_channel }
+    pub fn new(alloc: Global, side: Side) -> Channel
+        ensures { result ≡ new_channel side }
     {
         Channel {
+            side,
             framer: Framer::new(alloc),
             assembler: Assembler::new(alloc, 0, 0),
             sender: Sender::new(0, 0, 8192, 0, 0),
@@ -118,9 +123,9 @@ impl Channel {
         ear: Ear,
         frame: &Frame,
     ) -> Result<Option<Heard>, OutOfMemory>
-        ensures said { IfOk result (λ heard. heard ≡ (hearing ear frame.now self.old.assembly).heard) }
+        ensures said { IfOk result (λ heard. heard ≡ (hearing self.old.side ear frame.now self.old.assembly).heard) }
         ensures state { OnOk result (self.new
-            ≡ with_assembly (hearing ear frame.now self.old.assembly).assembly self.old) }
+            ≡ with_assembly (hearing self.old.side ear frame.now self.old.assembly).assembly self.old) }
         ensures unchanged { OnErr result (self.new ≡ self.old) }
     {
         if ear.takes(frame.kind) {
@@ -135,9 +140,9 @@ impl Channel {
     /// A frame of a kind that is taken.
     fn frame(&mut self, alloc: Global, frame: &Frame) -> Result<Option<Heard>, OutOfMemory>
         ensures said { IfOk result (λ heard.
-            heard ≡ (heard_of frame.now.kind frame.now self.old.assembly).heard) }
+            heard ≡ (heard_of self.old.side frame.now.kind frame.now self.old.assembly).heard) }
         ensures state { OnOk result (self.new
-            ≡ with_assembly (heard_of frame.now.kind frame.now self.old.assembly).assembly self.old) }
+            ≡ with_assembly (heard_of self.old.side frame.now.kind frame.now self.old.assembly).assembly self.old) }
         ensures unchanged { OnErr result (self.new ≡ self.old) }
     {
         match frame.kind {
@@ -187,11 +192,26 @@ impl Channel {
         }
     }
 
-    /// An OPN: its policy is judged before anything behind it is read.
+    /// An OPN, as this side judges it.
     fn opening(&mut self, alloc: Global, body: &[u8]) -> Result<Option<Heard>, OutOfMemory>
-        ensures said { IfOk result (λ heard. heard ≡ (opening_heard body.now self.old.assembly).heard) }
+        ensures said { IfOk result (λ heard.
+            heard ≡ (opening_heard self.old.side body.now self.old.assembly).heard) }
         ensures state { OnOk result (self.new
-            ≡ with_assembly (opening_heard body.now self.old.assembly).assembly self.old) }
+            ≡ with_assembly (opening_heard self.old.side body.now self.old.assembly).assembly self.old) }
+        ensures unchanged { OnErr result (self.new ≡ self.old) }
+    {
+        match self.side {
+            Side::Client => self.opened(alloc, body),
+            Side::Server => self.judged(alloc, body),
+        }
+    }
+
+    /// An OPN that comes to a server: its policy is judged before anything behind it is read.
+    fn judged(&mut self, alloc: Global, body: &[u8]) -> Result<Option<Heard>, OutOfMemory>
+        ensures said { IfOk result (λ heard.
+            heard ≡ (opening_heard sides.Server body.now self.old.assembly).heard) }
+        ensures state { OnOk result (self.new
+            ≡ with_assembly (opening_heard sides.Server body.now self.old.assembly).assembly self.old) }
         ensures unchanged { OnErr result (self.new ≡ self.old) }
     {
         match read_policy(alloc, body) {
@@ -211,7 +231,7 @@ impl Channel {
         }
     }
 
-    /// An OPN without security.
+    /// An OPN whose policy is taken.
     fn opened(&mut self, alloc: Global, body: &[u8]) -> Result<Option<Heard>, OutOfMemory>
         ensures said { IfOk result (λ heard.
             heard ≡ (opened (opn_of (opn_head_at (input 0 body.now))) self.old.assembly).heard) }

@@ -2,7 +2,6 @@ ghost use Rattle.std.specs.Prelude.{[], ◌≡◌, None, Some, OnErr, OnOk, opti
 ghost use Rattle.std.specs.Ordering.{nat_cmp};
 ghost use Rattle.std.specs.BTreeMap.{insert_entry, is_at};
 ghost use Rattle.std.specs.Map.{lookup, remove_entry, set_value};
-ghost use Rattle.ua_channel.specs.State.{new_channel};
 
 use crate::channel::Channel;
 use slab::Slab;
@@ -59,16 +58,16 @@ impl Channels {
         }
     }
 
-    /// A new end for a connection of a number that none has.
-    pub fn open(&mut self, alloc: Global, number: u32) -> Result<(), OutOfMemory>
+    /// The end of a connection of a number that none has.
+    pub fn open(&mut self, number: u32, channel: Channel) -> Result<(), OutOfMemory>
         requires { lookup (is_at (nat_cmp number)) self.old ≡ None }
-        ensures ok { OnOk result (self.new ≡ insert_entry nat_cmp self.old number new_channel) }
+        ensures ok { OnOk result (self.new ≡ insert_entry nat_cmp self.old number channel) }
         ensures unchanged { OnErr result (self.new ≡ self.old) }
     {
         self.slots.reserve(1)?;
         let key = self.slots.vacant_key();
         self.keys.insert(number, key)?;
-        self.slots.insert_reserved(Channel::new(alloc));
+        self.slots.insert_reserved(channel);
         Ok(())
     }
 

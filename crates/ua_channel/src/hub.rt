@@ -2,13 +2,15 @@ ghost use Rattle.std.specs.Prelude.{◌≡◌, ◌++◌, ℕ, List, OnOk};
 ghost use Rattle.ua_channel.specs.declared.ear.Ear.{Ear};
 ghost use Rattle.ua_channel.specs.declared.heard.Heard.{Heard};
 ghost use Rattle.ua_channel.specs.declared.wire.Order.{Order};
-ghost use Rattle.ua_channel.specs.Sharing.{obeyed_at, others, others_first, own, own_first, taken_at};
+ghost use Rattle.ua_channel.specs.Sharing.{others, others_first, own, own_first, taken_at};
 
 use crate::channel::Channel;
 use crate::channels::Channels;
 use crate::ear::Ear;
+use crate::ends::obey_at;
 use crate::heard::Heard;
-use crate::node::{Core, obey_one, take_bytes};
+use crate::node::{Core, take_bytes};
+use crate::side::Side;
 use crate::wire::Order;
 use std::alloc::Global;
 use ua_base::OutOfMemory;
@@ -33,24 +35,6 @@ pub trait Hub: Drop {
     ) -> Result<(), OutOfMemory>
         ensures hub { OnOk result (self.new ≡ (answers conn heard.now self.old).0) }
         ensures orders { OnOk result (to.new.items ≡ to.old.items ++ (answers conn heard.now self.old).1) };
-}
-
-/// Obeys an order at the end of a connection's number. One for a connection that isn't there is for nobody.
-fn obey_at(
-    alloc: Global,
-    channels: &mut Channels,
-    number: u32,
-    order: &Order,
-) -> Result<(), OutOfMemory>
-    ensures { OnOk result (channels.new ≡ obeyed_at number order.now channels.old) }
-{
-    if !channels.contains(number) {
-        return Ok(());
-    }
-    let mut channel = channels.swap(number, Channel::new(alloc));
-    obey_one(alloc, &mut channel, order)?;
-    channels.swap(number, channel);
-    Ok(())
 }
 
 /// Appends an order for this connection, and obeys one for another.
@@ -144,7 +128,7 @@ impl<H: Hub> Rest<H> {
         if !self.channels.contains(conn) {
             return Ok(());
         }
-        let mut channel = self.channels.swap(conn, Channel::new(alloc));
+        let mut channel = self.channels.swap(conn, Channel::new(alloc, Side::Server));
         take_bytes(alloc, self, conn, &mut channel, bytes)?;
         self.channels.swap(conn, channel);
         Ok(())

@@ -9,6 +9,7 @@ ghost use Rattle.ua_channel.specs.Messages.{settled_messages};
 ghost use Rattle.ua_channel.specs.Node.{Deafens, NodeState, deaf, node_after, node_of, settled};
 ghost use Rattle.ua_channel.specs.Orders.{obeyed_all};
 ghost use Rattle.ua_channel.specs.State.{new_channel};
+ghost use Rattle.ua_channel.specs.declared.side.Side.{Side};
 
 use crate::node::Core;
 
@@ -58,7 +59,7 @@ pub fn chains_arrive<C: Core>()
 /// same core, the same tokens, and of the messages put the bytes in their order. So it does where orders come from
 /// elsewhere, where a deaf end is shut, and where the bytes are taken.
 pub fn messages_show_bytes<C: Core>()
-    ensures begin { (core : C) → Mirrors 1 (node_of core new_channel)
+    ensures begin { (side : Side) (core : C) → Mirrors 1 (node_of core (new_channel side))
         (record { core = core; tokens = no_tokens; out = [] }) }
     ensures next { (conn : ℕ) (first : ℕ) (m : Sent) (n : NodeState C) (k : MessageState C)
         → Deafens (C.ears conn) (C.answer conn)

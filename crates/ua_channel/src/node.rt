@@ -52,8 +52,12 @@ pub(crate) fn obey_one(
     }
 }
 
-/// Obeys orders in turn.
-fn obey_all(alloc: Global, channel: &mut Channel, orders: &[Order]) -> Result<(), OutOfMemory>
+/// Obeys orders in turn. A message that doesn't fit isn't put.
+///
+/// # Errors
+///
+/// Want of memory. Nothing is said of what stands then.
+pub fn obey_all(alloc: Global, channel: &mut Channel, orders: &[Order]) -> Result<(), OutOfMemory>
     ensures { OnOk result (channel.new ≡ obeyed_all orders.now channel.old) }
 {
     for order in orders {

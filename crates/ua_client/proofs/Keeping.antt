@@ -31,7 +31,7 @@ module _ {C X : Type 0} (ears : C → Ear) (answer : Heard → C → C × List O
 
   frame_keeps : (f : Frame) (n : NodeState C) → part (with_frame ears answer f n).core ≡ part n.core
   unfolding with_frame
-  frame_keeps f n = frame_keeps_by (deaf ears answer n) (hearing (ears n.core) f n.channel.assembly) n
+  frame_keeps f n = frame_keeps_by (deaf ears answer n) (hearing n.channel.side (ears n.core) f n.channel.assembly) n
 
   frames_keep : (frames : List Frame) (n : NodeState C) → part (with_frames ears answer frames n).core ≡ part n.core
   frames_keep [] n = refl

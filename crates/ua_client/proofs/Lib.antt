@@ -1,6 +1,5 @@
 pub mod Counting
 pub mod Looping
-pub mod OneEnd
 pub mod Keeping
 pub mod Hushing
 pub mod Deafening

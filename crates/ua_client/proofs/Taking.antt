@@ -1,6 +1,6 @@
 -- Bytes that come from a server: in pieces, and as messages.
 use Rattle.std.proofs.Common.{◌≡◌, ℕ, List, ◌++◌, Option, Some, None, refl, sym, ap, ◌∙◌, ◌&&◌, Bool, true, false, cond, nat_le, length}
-use Rattle.ua_channel.specs.State.{ChannelState, new_channel}
+use Rattle.ua_channel.specs.State.{ChannelState, blank_end}
 use Rattle.ua_channel.specs.Arriving.{Arrive, Sent, bytes_of}
 use Rattle.ua_channel.specs.Node.{NodeState, node_after, node_of}
 use Rattle.ua_channel.specs.Sharing.{Ends, end_at, put_back, taken_by}
@@ -13,7 +13,7 @@ use Rattle.ua_client.specs.declared.event.ClientEvent.TheVariants as event
 use Rattle.ua_client.specs.Step.{apart, ends_of, heard_on, put_ends, rest_answer, rest_ears, taken, ended, stepped}
 use Rattle.ua_client.proofs.Staying.{heard_count}
 use Rattle.ua_client.proofs.Strangers.{no_event}
-use Rattle.ua_client.proofs.OneEnd.{back_again, end_set, others_apart}
+use Rattle.ua_channel.proofs.OneEnd.{back_again, end_set, others_apart}
 use Rattle.ua_client.proofs.Keeping.{bytes_keep}
 use Rattle.ua_client.proofs.Deafening.{deafens}
 
@@ -31,21 +31,21 @@ took o server bytes s = taken_by (rest_ears server) (rest_answer server) ends_of
 
 -- the blank end that stands in the place of one stays
 blank_stays : (server : ℕ) (bytes : List ℕ) (c : ChannelState) (s : BytesState) → end_in server s ≡ Some c
-    → end_in server (node_then server bytes (apart server c s)).core ≡ Some new_channel
+    → end_in server (node_then server bytes (apart server c s)).core ≡ Some blank_end
 blank_stays server bytes c s e =
     bytes_keep (rest_ears server) (rest_answer server) (end_in server)
     (λ h core. others_apart server ((heard server h core.hub).orders) core.channels) bytes (apart server c s)
-    ∙ end_set server new_channel c s.channels e
+    ∙ end_set server blank_end c s.channels e
 
 -- taken out once more, what was put back is as it was
-apart_back : (server : ℕ) (n : NodeState BytesState) → end_in server n.core ≡ Some new_channel → apart server n.channel (back server n) ≡ n
+apart_back : (server : ℕ) (n : NodeState BytesState) → end_in server n.core ≡ Some blank_end → apart server n.channel (back server n) ≡ n
 apart_back server n e =
-    ap (λ (ends : Ends). node_of (put_ends ends n.core) n.channel) (back_again server new_channel n.channel n.core.channels e)
+    ap (λ (ends : Ends). node_of (put_ends ends n.core) n.channel) (back_again server blank_end n.channel n.core.channels e)
 
-found_back : (server : ℕ) (n : NodeState BytesState) → end_in server n.core ≡ Some new_channel → end_in server (back server n) ≡ Some n.channel
-found_back server n e = end_set server n.channel new_channel n.core.channels e
+found_back : (server : ℕ) (n : NodeState BytesState) → end_in server n.core ≡ Some blank_end → end_in server (back server n) ≡ Some n.channel
+found_back server n e = end_set server n.channel blank_end n.core.channels e
 
-then_took : (server : ℕ) (bytes : List ℕ) (n : NodeState BytesState) → end_in server n.core ≡ Some new_channel
+then_took : (server : ℕ) (bytes : List ℕ) (n : NodeState BytesState) → end_in server n.core ≡ Some blank_end
     → took (end_in server (back server n)) server bytes (back server n) ≡ back server (node_then server bytes n)
 then_took server bytes n e =
     ap (λ (o : Option ChannelState). took o server bytes (back server n)) (found_back server n e)

@@ -3,8 +3,9 @@ use Rattle.std.specs.Prelude.{ℕ, ◌+◌, zero, suc, Bool, false, List, [], is
 use Rattle.std.specs.Ordering.{nat_cmp}
 use Rattle.std.specs.BTreeMap.{insert_entry}
 use Rattle.ua_channel.specs.declared.hub.Rest.{Rest}
+use Rattle.ua_channel.specs.declared.side.Side.TheVariants as sides
 use Rattle.ua_channel.specs.State.{ChannelState, held_in, new_channel}
-use Rattle.ua_channel.specs.Sharing.{Ends, end_at, with_end}
+use Rattle.ua_channel.specs.Sharing.{Ends, emptied_by, end_at, out_by, with_end}
 use Rattle.link_rules.specs.declared.notice.Wish.{Wish}
 use Rattle.link_rules.specs.declared.notice.Wish.TheVariants as wish
 use Rattle.link_rules.specs.Step.{wish_of, wish_taken}
@@ -28,7 +29,7 @@ life_of s = record { failed = false; bytes = s }
 
 abbrev pub end_opened : ℕ → Ends → Ends
 end_opened server ends =
-    if is_some (end_at server ends) then ends else insert_entry nat_cmp ends server new_channel
+    if is_some (end_at server ends) then ends else insert_entry nat_cmp ends server (new_channel sides.Client)
 
 -- those of the first so many servers
 unfoldable pub first_ends : ℕ → Ends
@@ -41,17 +42,9 @@ new_bytes config = record { hub = new_client config; channels = first_ends (serv
 
 -- ---- what is seen of a server; of one that it doesn't have, nothing
 
-abbrev pub out_by : Option ChannelState → List ℕ
-out_by None = []
-out_by (Some c) = c.out
-
 -- the bytes that weren't taken
 abbrev pub out_of : ℕ → BytesState → List ℕ
 out_of server s = out_by (end_at server s.channels)
-
-abbrev pub emptied_by : Option ChannelState → ℕ → Ends → Ends
-emptied_by None server ends = ends
-emptied_by (Some c) server ends = with_end server (record c { out = [] }) ends
 
 -- they are taken
 abbrev pub without_out : ℕ → BytesState → BytesState

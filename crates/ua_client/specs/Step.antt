@@ -3,10 +3,11 @@ use Rattle.std.specs.Prelude.{ℕ, ◌+◌, zero, suc, Bool, true, List, [], ◌
 use Rattle.ua_channel.specs.declared.ear.Ear.{Ear}
 use Rattle.ua_channel.specs.declared.heard.Heard.{Heard}
 use Rattle.ua_channel.specs.declared.wire.Order.{Order}
-use Rattle.ua_channel.specs.State.{ChannelState, is_deaf, new_channel, shut}
+use Rattle.ua_channel.specs.declared.side.Side.TheVariants as sides
+use Rattle.ua_channel.specs.State.{ChannelState, blank_end, is_deaf, new_channel}
 use Rattle.ua_channel.specs.Arriving.{Sent, heard_all}
 use Rattle.ua_channel.specs.Node.{NodeState, node_of}
-use Rattle.ua_channel.specs.Sharing.{Ends, end_at, obeyed_at, others, own, put_back, taken_at, with_end}
+use Rattle.ua_channel.specs.Sharing.{Ends, end_at, obeyed_at, obeyed_each, others, own, put_back, shut_by, taken_at, with_end}
 use Rattle.link_rules.specs.Opening.{begins_anew}
 use Rattle.client_rules.specs.State.{ClientState, is_server, link_of}
 use Rattle.client_rules.specs.Acts.{Closes, Opens, Refuses, Ticks}
@@ -18,11 +19,6 @@ use Rattle.ua_client.specs.declared.event.ClientEvent.TheVariants as event
 use Rattle.ua_client.specs.State.{BytesState}
 
 -- ---- orders
-
--- each goes to the end of its server
-abbrev pub obeyed_each : List (ℕ × Order) → Ends → Ends
-obeyed_each [] ends = ends
-obeyed_each (o ∷ orders) ends = obeyed_each orders (obeyed_at o.0 o.1 ends)
 
 -- what a rule did, with its orders obeyed by these ends
 abbrev pub with_ends : Ends → ClientDid → BytesState
@@ -53,7 +49,7 @@ taken server bytes s = taken_at (rest_ears server) (rest_answer server) ends_of 
 
 -- a server's end, and all the rest behind it
 abbrev pub apart : ℕ → ChannelState → BytesState → NodeState BytesState
-apart server c s = node_of (put_ends (with_end server new_channel s.channels) s) c
+apart server c s = node_of (put_ends (with_end server blank_end s.channels) s) c
 
 -- messages that come from a server of this end, whole
 abbrev pub heard_on : ℕ → List Sent → ChannelState → BytesState → BytesState
@@ -66,16 +62,12 @@ heard_on server sent c s =
 -- with a connection that is opened where none stood a stream begins: what wasn't taken was for one before
 abbrev pub end_renewed : ℕ → BytesState → Ends
 end_renewed server s =
-    if begins_anew (link_of server s.hub) then with_end server new_channel s.channels else s.channels
+    if begins_anew (link_of server s.hub) then with_end server (new_channel sides.Client) s.channels else s.channels
 
 abbrev pub opened_bytes : ℕ → BytesState → BytesState
 opened_bytes server s = with_ends (end_renewed server s) (after (Opens server) s.hub)
 
 -- ---- the end of an event
-
-abbrev pub shut_by : Option ChannelState → ℕ → Ends → Ends
-shut_by None server ends = ends
-shut_by (Some c) server ends = with_end server (shut c) ends
 
 -- where nothing is heard of a server nothing is kept of what came from it
 abbrev pub shut_at : ℕ → ClientState → Ends → Ends

@@ -5,15 +5,16 @@ ghost use Rattle.ua_client.specs.Step.{stepped};
 
 use crate::client_core::ClientCore;
 use crate::dialling::dial;
+use crate::ends::first_ends;
 use crate::event::ClientEvent;
-use crate::{ends, step};
+use crate::step;
 use client_rules::ClientConfig;
 use link_rules::Wish;
 use set_model::LogLine;
 use std::alloc::Global;
 use std::marker::Model;
 use ua_base::OutOfMemory;
-use ua_channel::{Hub, Rest};
+use ua_channel::{Hub, Rest, take_out};
 
 /// A client that fails over between the servers of a set.
 #[derive(Drop)]
@@ -42,7 +43,7 @@ impl Client {
         ensures { IfOk result (λ client. client ≡ life_of (new_bytes config)) }
     {
         let mut hub = ClientCore::new(alloc, config)?;
-        let channels = ends::first_ends(alloc, hub.count())?;
+        let channels = first_ends(alloc, hub.count())?;
         dial(&mut hub);
         Ok(Client {
             rest: Rest { hub, channels },
@@ -107,7 +108,7 @@ impl Client {
         ensures unchanged { OnErr result (self.new ≡ self.old) }
         ensures nothing { OnErr result (to.new.items ≡ to.old.items) }
     {
-        ends::take_out(alloc, &mut self.rest.channels, u32::from(server), to)
+        take_out(alloc, &mut self.rest.channels, u32::from(server), to)
     }
 
     /// What the client wishes for its connection to a server, which is taken by that; `None` for one that it doesn't have.

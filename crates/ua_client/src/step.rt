@@ -8,12 +8,12 @@ ghost use Rattle.ua_client.specs.Standing.{HasServer};
 
 use crate::client_core::ClientCore;
 use crate::dialling::dial;
-use crate::ends::{obey_each, renew, shut};
+use crate::ends::renew;
 use crate::event::ClientEvent;
 use crate::happening;
 use std::alloc::Global;
 use ua_base::OutOfMemory;
-use ua_channel::{Channels, Hub, Rest};
+use ua_channel::{Channels, Hub, Rest, obey_each, shut_end};
 
 /// Begins the end of a server anew, where its link awaits a connection or has none.
 fn renew_end(alloc: Global, rest: &mut Rest<ClientCore>, server: u8)
@@ -78,7 +78,7 @@ fn shut_at(alloc: Global, client: &ClientCore, channels: &mut Channels, server: 
 {
     let number = u32::from(server);
     if client.ear(number).is_deaf() {
-        shut(alloc, channels, number);
+        shut_end(alloc, channels, number);
     }
 }
 

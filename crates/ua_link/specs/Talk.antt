@@ -3,6 +3,7 @@ use Rattle.std.specs.Prelude.{ℕ, Bool, true, false, List, [], ◌++◌}
 use Rattle.ua_channel.specs.declared.ear.Ear.{Ear}
 use Rattle.ua_channel.specs.declared.heard.Heard.{Heard}
 use Rattle.ua_channel.specs.declared.wire.Order.{Order}
+use Rattle.ua_channel.specs.declared.side.Side.TheVariants as sides
 use Rattle.ua_channel.specs.State.{ChannelState, held_in, new_channel}
 use Rattle.ua_channel.specs.Node.{NodeState, node_after, node_of, settled}
 use Rattle.ua_channel.specs.Orders.{obeyed_all}
@@ -48,7 +49,7 @@ abbrev pub life_of : TalkState → Life
 life_of s = record { failed = false; talk = s }
 
 abbrev pub new_talk : LinkConfig → TalkState
-new_talk config = node_of (record { link = new_link config; notices = [] }) new_channel
+new_talk config = node_of (record { link = new_link config; notices = [] }) (new_channel sides.Client)
 
 -- the link alone changes
 abbrev pub with_link : LinkState → TalkState → TalkState
@@ -76,7 +77,7 @@ after_rule did s = settled ears answer (obeyed_by did s)
 
 -- where a connection begins anew, nothing is left of the one before
 abbrev pub end_for : Bool → ChannelState → ChannelState
-end_for true c = new_channel
+end_for true c = new_channel sides.Client
 end_for false c = c
 
 abbrev pub anew : TalkState → TalkState

@@ -2,7 +2,7 @@
 
 ghost use Rattle.std.specs.Prelude.{◌≡◌, ◌++◌, OnOk};
 ghost use Rattle.ua_channel.specs.Node.{node_after, node_of, settled};
-ghost use Rattle.ua_channel.specs.Orders.{obeyed, obeyed_all};
+ghost use Rattle.ua_channel.specs.Orders.{obeyed_all};
 ghost use Rattle.link_rules.specs.Said.{nothing};
 ghost use Rattle.link_rules.specs.Opening as opening;
 ghost use Rattle.link_rules.specs.Step as rules;
@@ -13,31 +13,11 @@ use crate::event::LinkEvent;
 use crate::telling::Telling;
 use std::alloc::Global;
 use ua_base::{Mode, OutOfMemory};
-use ua_channel::{Channel, ChannelFault, Order, take_bytes};
+use ua_channel::{Channel, Order, Side, obey_all, take_bytes};
 use ua_values::UaText;
 
 /// The number of the one connection.
 const CONNECTION: u32 = 0;
-
-/// Obeys an order. A message that doesn't fit isn't put.
-fn obey(alloc: Global, channel: &mut Channel, order: &Order) -> Result<(), OutOfMemory>
-    ensures { OnOk result (channel.new ≡ obeyed order.now channel.old) }
-{
-    match channel.obey(alloc, order) {
-        Ok(()) | Err(ChannelFault::TooLarge { .. }) => Ok(()),
-        Err(ChannelFault::OutOfMemory) => Err(OutOfMemory),
-    }
-}
-
-/// Obeys orders in turn.
-fn obey_all(alloc: Global, channel: &mut Channel, orders: &[Order]) -> Result<(), OutOfMemory>
-    ensures { OnOk result (channel.new ≡ obeyed_all orders.now channel.old) }
-{
-    for order in orders {
-        obey(alloc, channel, order)?;
-    }
-    Ok(())
-}
 
 /// Lets a deaf end keep nothing.
 fn settle(alloc: Global, telling: &Telling, channel: &mut Channel)
@@ -69,7 +49,7 @@ fn begin_anew(alloc: Global, telling: &Telling, channel: &mut Channel)
     ensures { node_of telling.now channel.new ≡ talk.anew (node_of telling.now channel.old) }
 {
     if telling.link.begins_anew() {
-        *channel = Channel::new(alloc);
+        *channel = Channel::new(alloc, Side::Client);
     }
 }
 

@@ -11,7 +11,7 @@ use link_rules::{LinkConfig, Notice, Wish};
 use std::alloc::Global;
 use std::marker::Model;
 use ua_base::OutOfMemory;
-use ua_channel::Channel;
+use ua_channel::{Channel, Side};
 
 /// A link over bytes.
 #[derive(Drop)]
@@ -41,7 +41,7 @@ impl LinkTalk {
     {
         LinkTalk {
             telling: Telling::new(alloc, config),
-            channel: Channel::new(alloc),
+            channel: Channel::new(alloc, Side::Client),
             failed: false,
         }
     }

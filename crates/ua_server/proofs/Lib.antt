@@ -1,4 +1,3 @@
-pub mod OneEnd
 pub mod Keeping
 pub mod Deafening
 pub mod Taking

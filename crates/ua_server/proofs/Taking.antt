@@ -1,6 +1,6 @@
 -- Bytes that come for a connection: in pieces, none at all, and as messages.
 use Rattle.std.proofs.Common.{◌≡◌, ℕ, List, [], ◌++◌, Option, Some, None, refl, sym, ap, ◌∙◌}
-use Rattle.ua_channel.specs.State.{ChannelState, new_channel}
+use Rattle.ua_channel.specs.State.{ChannelState, blank_end}
 use Rattle.ua_channel.specs.Arriving.{Arrive, Sent, bytes_of}
 use Rattle.ua_channel.specs.Node.{NodeState, node_after, node_of}
 use Rattle.ua_channel.specs.Sharing.{Ends, end_at, put_back, taken_by}
@@ -10,7 +10,7 @@ use Rattle.server_rules.specs.Said.{orders_of}
 use Rattle.server_rules.specs.Step.{heard}
 use Rattle.ua_server.specs.State.{BytesState}
 use Rattle.ua_server.specs.Step.{apart, ends_of, heard_on, put_ends, rest_answer, rest_ears, taken}
-use Rattle.ua_server.proofs.OneEnd.{back_again, end_set, others_apart}
+use Rattle.ua_channel.proofs.OneEnd.{back_again, end_set, others_apart}
 use Rattle.ua_server.proofs.Keeping.{bytes_keep}
 use Rattle.ua_server.proofs.Deafening.{deafens}
 
@@ -28,21 +28,21 @@ took o conn bytes s = taken_by (rest_ears conn) (rest_answer conn) ends_of put_e
 
 -- the blank end that stands in the place of one stays
 blank_stays : (conn : ℕ) (bytes : List ℕ) (c : ChannelState) (s : BytesState) → end_in conn s ≡ Some c
-    → end_in conn (node_then conn bytes (apart conn c s)).core ≡ Some new_channel
+    → end_in conn (node_then conn bytes (apart conn c s)).core ≡ Some blank_end
 blank_stays conn bytes c s e =
     bytes_keep (rest_ears conn) (rest_answer conn) (end_in conn)
     (λ h core. others_apart conn (orders_of (heard conn h core.hub).said) core.channels) bytes (apart conn c s)
-    ∙ end_set conn new_channel c s.channels e
+    ∙ end_set conn blank_end c s.channels e
 
 -- taken out once more, what was put back is as it was
-apart_back : (conn : ℕ) (n : NodeState BytesState) → end_in conn n.core ≡ Some new_channel → apart conn n.channel (back conn n) ≡ n
+apart_back : (conn : ℕ) (n : NodeState BytesState) → end_in conn n.core ≡ Some blank_end → apart conn n.channel (back conn n) ≡ n
 apart_back conn n e =
-    ap (λ (ends : Ends). node_of (put_ends ends n.core) n.channel) (back_again conn new_channel n.channel n.core.channels e)
+    ap (λ (ends : Ends). node_of (put_ends ends n.core) n.channel) (back_again conn blank_end n.channel n.core.channels e)
 
-found_back : (conn : ℕ) (n : NodeState BytesState) → end_in conn n.core ≡ Some new_channel → end_in conn (back conn n) ≡ Some n.channel
-found_back conn n e = end_set conn n.channel new_channel n.core.channels e
+found_back : (conn : ℕ) (n : NodeState BytesState) → end_in conn n.core ≡ Some blank_end → end_in conn (back conn n) ≡ Some n.channel
+found_back conn n e = end_set conn n.channel blank_end n.core.channels e
 
-then_took : (conn : ℕ) (bytes : List ℕ) (n : NodeState BytesState) → end_in conn n.core ≡ Some new_channel
+then_took : (conn : ℕ) (bytes : List ℕ) (n : NodeState BytesState) → end_in conn n.core ≡ Some blank_end
     → took (end_in conn (back conn n)) conn bytes (back conn n) ≡ back conn (node_then conn bytes n)
 then_took conn bytes n e =
     ap (λ (o : Option ChannelState). took o conn bytes (back conn n)) (found_back conn n e)
@@ -63,7 +63,7 @@ taken_cut conn first second s = cut_by (end_in conn s) conn first second s refl
 none_by : (o : Option ChannelState) (conn : ℕ) (s : BytesState) → end_in conn s ≡ o → took o conn [] s ≡ s
 unfolding node_after
 none_by None conn s e = refl
-none_by (Some c) conn s e = ap (λ (ends : Ends). put_ends ends s) (back_again conn c new_channel s.channels e)
+none_by (Some c) conn s e = ap (λ (ends : Ends). put_ends ends s) (back_again conn c blank_end s.channels e)
 
 pub none_taken : (conn : ℕ) (s : BytesState) → taken conn [] s ≡ s
 unfolding taken

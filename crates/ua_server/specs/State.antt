@@ -3,7 +3,7 @@ use Rattle.std.specs.Prelude.{ℕ, Bool, false, List, [], ◌&&◌, is_some, Opt
 use Rattle.set_model.specs.declared.source.Change.{Change}
 use Rattle.ua_channel.specs.declared.hub.Rest.{Rest}
 use Rattle.ua_channel.specs.State.{ChannelState, held_in, is_deaf}
-use Rattle.ua_channel.specs.Sharing.{Ends, end_at, with_end}
+use Rattle.ua_channel.specs.Sharing.{Ends, emptied_by, end_at, out_by, with_end}
 use Rattle.server_rules.specs.declared.config.ServerConfig.{ServerConfig}
 use Rattle.server_rules.specs.State.{ServerState, new_server}
 use Rattle.server_rules.specs.Step.{ears}
@@ -27,17 +27,9 @@ new_bytes config current = record { hub = new_server config current; channels = 
 
 -- ---- what is seen of a connection; of one that isn't there, nothing
 
-abbrev pub out_by : Option ChannelState → List ℕ
-out_by None = []
-out_by (Some c) = c.out
-
 -- the bytes that weren't taken
 abbrev pub out_of : ℕ → BytesState → List ℕ
 out_of conn s = out_by (end_at conn s.channels)
-
-abbrev pub emptied_by : Option ChannelState → ℕ → Ends → Ends
-emptied_by None conn ends = ends
-emptied_by (Some c) conn ends = with_end conn (record c { out = [] }) ends
 
 -- they are taken
 abbrev pub without_out : ℕ → BytesState → BytesState

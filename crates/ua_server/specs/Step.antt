@@ -6,10 +6,11 @@ use Rattle.std.specs.Map.{remove_entry}
 use Rattle.ua_channel.specs.declared.ear.Ear.{Ear}
 use Rattle.ua_channel.specs.declared.heard.Heard.{Heard}
 use Rattle.ua_channel.specs.declared.wire.Order.{Order}
-use Rattle.ua_channel.specs.State.{ChannelState, new_channel}
+use Rattle.ua_channel.specs.declared.side.Side.TheVariants as sides
+use Rattle.ua_channel.specs.State.{ChannelState, blank_end, new_channel}
 use Rattle.ua_channel.specs.Arriving.{Sent, heard_all}
 use Rattle.ua_channel.specs.Node.{NodeState, node_of}
-use Rattle.ua_channel.specs.Sharing.{Ends, end_at, obeyed_at, others, own, put_back, taken_at, with_end}
+use Rattle.ua_channel.specs.Sharing.{Ends, end_at, obeyed_at, obeyed_each, others, own, put_back, taken_at, with_end}
 use Rattle.server_rules.specs.Said.{Did, orders_of}
 use Rattle.server_rules.specs.Connecting.{is_above}
 use Rattle.server_rules.specs.Step.{Feeds, Closes, Levels, Opens, Ticks, after, ears, heard}
@@ -18,11 +19,6 @@ use Rattle.ua_server.specs.declared.event.ServerEvent.TheVariants as event
 use Rattle.ua_server.specs.State.{BytesState}
 
 -- ---- orders
-
--- each goes to the end of its connection
-abbrev pub obeyed_each : List (ℕ × Order) → Ends → Ends
-obeyed_each [] ends = ends
-obeyed_each (o ∷ orders) ends = obeyed_each orders (obeyed_at o.0 o.1 ends)
 
 -- what a rule did, with its orders obeyed by these ends
 abbrev pub with_ends : Ends → Did → BytesState
@@ -53,7 +49,7 @@ taken conn bytes s = taken_at (rest_ears conn) (rest_answer conn) ends_of put_en
 
 -- a connection's end, and all the rest behind it
 abbrev pub apart : ℕ → ChannelState → BytesState → NodeState BytesState
-apart conn c s = node_of (put_ends (with_end conn new_channel s.channels) s) c
+apart conn c s = node_of (put_ends (with_end conn blank_end s.channels) s) c
 
 -- messages that come for a connection of this end, whole
 abbrev pub heard_on : ℕ → List Sent → ChannelState → BytesState → BytesState
@@ -66,7 +62,7 @@ heard_on conn sent c s =
 -- a connection has an end from now on
 abbrev pub end_opened : ℕ → Ends → Ends
 end_opened conn ends =
-    if is_some (end_at conn ends) then ends else insert_entry nat_cmp ends conn new_channel
+    if is_some (end_at conn ends) then ends else insert_entry nat_cmp ends conn (new_channel sides.Server)
 
 abbrev pub end_closed : ℕ → Ends → Ends
 end_closed conn ends = remove_entry (is_at (nat_cmp conn)) ends

@@ -2,7 +2,6 @@
 //! surroundings tell it. It does no input and output of its own.
 #![tactic(auto)]
 
-mod ends;
 mod event;
 mod laws;
 mod server;

@@ -3,14 +3,14 @@ ghost use Rattle.ua_server.specs.State.{held_of, is_closing, life_of, new_bytes,
 ghost use Rattle.ua_server.specs.Step.{stepped};
 
 use crate::event::ServerEvent;
-use crate::{ends, step};
+use crate::step;
 use redundancy_nodes::CurrentChanges;
 use server_core::ServerCore;
 use server_rules::ServerConfig;
 use std::alloc::Global;
 use std::marker::Model;
 use ua_base::OutOfMemory;
-use ua_channel::{Channels, Hub, Rest};
+use ua_channel::{Channels, Hub, Rest, take_out};
 
 /// One life of a server.
 #[derive(Drop)]
@@ -99,7 +99,7 @@ impl Server {
         ensures unchanged { OnErr result (self.new ≡ self.old) }
         ensures nothing { OnErr result (to.new.items ≡ to.old.items) }
     {
-        ends::take_out(alloc, &mut self.rest.channels, conn, to)
+        take_out(alloc, &mut self.rest.channels, conn, to)
     }
 
     /// Whether a connection is to be closed once its bytes are taken: nothing more is heard of it. One that isn't there

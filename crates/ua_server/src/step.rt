@@ -4,13 +4,23 @@ ghost use Rattle.std.specs.Prelude.{◌≡◌, OnOk};
 ghost use Rattle.server_rules.specs.Step.{Closes, Feeds, Levels, Opens, Ticks, after};
 ghost use Rattle.ua_server.specs.Step.{closed_bytes, end_closed, end_opened, opened_bytes, stepped, taken, with_ends};
 
-use crate::ends::{obey_each, open_end};
 use crate::event::ServerEvent;
 use server_core::ServerCore;
 use set_model::Change;
 use std::alloc::Global;
 use ua_base::OutOfMemory;
-use ua_channel::Rest;
+use ua_channel::{Channel, Channels, Rest, Side, obey_each};
+
+/// A connection has an end from now on.
+fn open_end(alloc: Global, channels: &mut Channels, conn: u32) -> Result<(), OutOfMemory>
+    ensures { OnOk result (channels.new ≡ end_opened conn channels.old) }
+{
+    if channels.contains(conn) {
+        Ok(())
+    } else {
+        channels.open(conn, Channel::new(alloc, Side::Server))
+    }
+}
 
 /// Opens a connection of a new number.
 fn open_new(alloc: Global, rest: &mut Rest<ServerCore>, conn: u32) -> Result<(), OutOfMemory>

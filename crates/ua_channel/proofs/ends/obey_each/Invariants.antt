@@ -1,6 +1,6 @@
 use Rattle.std.proofs.Common.{◌≡◌, length}
-use Rattle.ua_client.specs.Step.{obeyed_each}
-use Rattle.ua_client.proofs.ends.obey_each.Given as goal
+use Rattle.ua_channel.specs.Sharing.{obeyed_each}
+use Rattle.ua_channel.proofs.ends.obey_each.Given as goal
 
 abbrev pub invariant-loop-entry : goal.invariant-loop-entry
 invariant-loop-entry l = obeyed_each l.entry-iterator.rest.items l.channels ≡ obeyed_each l.fn.orders.items l.fn.channels

@@ -7,11 +7,10 @@ use Rattle.std.specs.Ordering.{nat_cmp}
 use Rattle.std.specs.BTreeMap.{is_at}
 use Rattle.std.specs.Map.{lookup, set_value}
 use Rattle.ua_channel.specs.declared.wire.Order.{Order}
-use Rattle.ua_channel.specs.State.{ChannelState}
+use Rattle.ua_channel.specs.State.{ChannelState, shut}
 use Rattle.ua_channel.specs.Orders.{obeyed}
-use Rattle.ua_channel.specs.Sharing.{Ends, end_at, obeyed_at, obeyed_by, others, with_end}
+use Rattle.ua_channel.specs.Sharing.{Ends, emptied_by, end_at, obeyed_at, obeyed_by, others, shut_by, with_end}
 use Rattle.ua_channel.proofs.Sharings.{set_twice}
-use Rattle.ua_server.specs.State.{emptied_by}
 
 -- ---- an end that is set is found
 
@@ -91,3 +90,13 @@ pub emptied_there : (conn : ℕ) (ends : Ends) (blank : ChannelState) → is_som
     → with_end conn (record (unwrap_or (end_at conn ends) blank) { out = [] }) (with_end conn blank ends)
     ≡ emptied_by (end_at conn ends) conn ends
 emptied_there conn ends blank is = emptied_found (end_at conn ends) conn ends blank is
+
+shut_found : (o : Option ChannelState) (conn : ℕ) (ends : Ends) (blank : ChannelState) → is_some o ≡ true
+    → with_end conn (shut (unwrap_or o blank)) (with_end conn blank ends) ≡ shut_by o conn ends
+shut_found None conn ends blank is = absurd cc
+shut_found (Some c) conn ends blank is = set_twice (is_at (nat_cmp conn)) ends blank (shut c)
+
+pub shut_there : (conn : ℕ) (ends : Ends) (blank : ChannelState) → is_some (end_at conn ends) ≡ true
+    → with_end conn (shut (unwrap_or (end_at conn ends) blank)) (with_end conn blank ends)
+    ≡ shut_by (end_at conn ends) conn ends
+shut_there conn ends blank is = shut_found (end_at conn ends) conn ends blank is

@@ -3,7 +3,7 @@ use Rattle.ua_channel.specs.State.{ChannelState}
 use Rattle.ua_channel.specs.Orders.{obeyed}
 use Rattle.ua_channel.specs.Sharing.{Ends, with_end}
 use Rattle.ua_channel.proofs.Sharings.{obeyed_there}
-use Rattle.ua_channel.proofs.hub.obey_at.Goals as goal
+use Rattle.ua_channel.proofs.ends.obey_at.Goals as goal
 
 pub returns : goal.returns
 returns c =
