@@ -1,0 +1,176 @@
+ghost use Rattle.std.specs.Prelude.{◌≡◌, ◌≢◌, ◌<◌, ◌≤◌, IfOk, IfSome, OnErr, OnOk, false, length, true};
+ghost use Rattle.direct_world.specs.Server.{place_in};
+ghost use Rattle.ua_base.specs.declared.modes.SetMode.TheVariants.{Direct};
+ghost use Rattle.set_world.specs.State.{new_world, world_after};
+
+use crate::making::{Kind, client};
+use crate::set::{Set, new_slots};
+use scenario::Line;
+use set_model::{LogLine, SourceLog};
+use std::alloc::Global;
+use std::marker::Model;
+use ua_base::{OutOfMemory, SetMode};
+use ua_server::ServerEvent;
+
+/// The world of a set of servers and a client that fails over between them.
+#[derive(Drop)]
+pub struct World {
+    kind: Kind,
+    set: Set,
+    failed: bool,
+}
+
+impl Model for World {
+    ghost use Rattle.set_world.specs.State.{WorldState};
+
+    ghost Value = { WorldState };
+
+    ghost view = { λ w. record {
+      mode = w.kind.mode;
+      servers = w.kind.servers;
+      items = w.kind.items;
+      set = w.set;
+      failed = w.failed;
+    } };
+}
+
+impl World {
+    /// The world when the set begins: every server runs its first life, the client has dialled, and nothing changed yet.
+    /// The set has from 1 to 8 servers and each server from 1 to 64 items. The queue of an item holds `queue` values,
+    /// from 2 to 1000, and a full one discards its oldest or, with `oldest` false, its newest (OPC 10000-4, 5.12.1.5).
+    ///
+    /// # Errors
+    ///
+    /// Want of memory.
+    pub fn new(
+        alloc: Global,
+        mode: SetMode,
+        servers: u8,
+        items: u8,
+        queue: u32,
+        oldest: bool,
+    ) -> Result<World, OutOfMemory>
+        requires mode { mode ≢ Direct }
+        requires servers { (1 ≤ servers) × (servers ≤ 8) }
+        ensures { IfOk result (λ world. world ≡ new_world mode servers items queue oldest) }
+    {
+        let kind = Kind {
+            mode,
+            servers,
+            items,
+        };
+        let set = new_set(alloc, kind, queue, oldest)?;
+        Ok(World {
+            kind,
+            set,
+            failed: false,
+        })
+    }
+
+    /// The report of the client so far.
+    pub fn lines(&self) -> &[LogLine]
+        ensures { result.now ≡ self.now.set.client.hub.log.lines }
+    {
+        self.set.client.lines()
+    }
+
+    fn place_of(&self, server: u8) -> Option<usize>
+        ensures place { result ≡ place_in server (length self.now.set.slots) }
+        ensures within { IfSome result (λ place. place < length self.now.set.slots) }
+    {
+        let count = self.set.count();
+        if server >= 1 && usize::from(server) <= count {
+            Some(usize::from(server) - 1)
+        } else {
+            None
+        }
+    }
+
+    /// What the line does to the world.
+    fn step(&mut self, alloc: Global, line: &Line) -> Result<(), OutOfMemory>
+        ensures { OnOk result (self.new ≡ world_after line.now self.old) }
+    {
+        match *line {
+            Line::Change { change } => self.set.change(change),
+            Line::Tick { ms } => self.set.tick(alloc, ms),
+            Line::Pass { rounds } => self.set.pass(alloc, rounds),
+            Line::Feed { server, count } => match self.place_of(server) {
+                Some(place) => self.set.feed(alloc, place, count),
+                None => Ok(()),
+            },
+            Line::Level { server, level } => match self.place_of(server) {
+                Some(place) => {
+                    let event = ServerEvent::Level { level };
+                    self.set.happen(alloc, place, &event)
+                },
+                None => Ok(()),
+            },
+            Line::Stop { server } => match self.place_of(server) {
+                Some(place) => self.set.stop(alloc, place),
+                None => Ok(()),
+            },
+            Line::Start { server } => match self.place_of(server) {
+                Some(place) => self.set.start(alloc, self.kind, place),
+                None => Ok(()),
+            },
+            Line::Cut { server } => match self.place_of(server) {
+                Some(place) => self.set.lose(alloc, place),
+                None => Ok(()),
+            },
+            Line::Half { server } => match self.place_of(server) {
+                Some(place) => self.set.halve(alloc, place),
+                None => Ok(()),
+            },
+            Line::Hold { server } => {
+                if let Some(place) = self.place_of(server) {
+                    self.set.hold(place, true);
+                }
+                Ok(())
+            }
+            Line::Free { server } => {
+                if let Some(place) = self.place_of(server) {
+                    self.set.hold(place, false);
+                }
+                Ok(())
+            }
+            _ => Ok(()),
+        }
+    }
+
+    /// Takes the next line of a scenario. A line that names a server that isn't there leaves the world as it is, and so do
+    /// those that say nothing of the nodes of a set, as its first two.
+    ///
+    /// # Errors
+    ///
+    /// Want of memory. The world has failed then, and answers it from then on; of its state nothing is said.
+    pub fn line(&mut self, alloc: Global, line: &Line) -> Result<(), OutOfMemory>
+        ensures ok { OnOk result (self.new ≡ world_after line.now self.old) }
+        ensures works { OnOk result (self.old.failed ≡ false) }
+        ensures failed { OnErr result (self.new.failed ≡ true) }
+    {
+        if self.failed {
+            return Err(OutOfMemory);
+        }
+        let result = self.step(alloc, line);
+        if result.is_err() {
+            self.failed = true;
+        }
+        result
+    }
+}
+
+/// A set that begins.
+fn new_set(alloc: Global, kind: Kind, queue: u32, oldest: bool) -> Result<Set, OutOfMemory>
+    requires mode { kind.mode ≢ Direct }
+    requires servers { (1 ≤ kind.servers) × (kind.servers ≤ 8) }
+    ensures { IfOk result (λ set. set
+        ≡ (new_world kind.mode kind.servers kind.items queue oldest).set) }
+{
+    let client = client(alloc, kind, queue, oldest)?;
+    let slots = new_slots(alloc, kind)?;
+    Ok(Set {
+        source: SourceLog::new(alloc),
+        slots,
+        client,
+    })
+}
