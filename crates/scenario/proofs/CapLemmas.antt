@@ -26,7 +26,7 @@ use Rattle.scenario.specs.Rules.{allows, allows_set}
 use Rattle.scenario.specs.Words.{◌>>=◌, words_of, dotted, number_of, number_by, read_by, pico_by, stamp_by, integer_by, below_zero, capped}
 use Rattle.scenario.specs.Grammar.{word_at, none_left, number_at, numbers_after, numbers_at, stamp_at, integer_at, mode_at, one_number, rule_at, name_at, plain_form, set_form, items_form, change_form, form_after, form_of, form_read}
 use Rattle.scenario.specs.Past.{is_direct_in, servers_in, items_in}
-use Rattle.scenario.specs.Faults.{misses_set, is_in_place, is_between, fits_mode, is_within, in_bounds, is_server, is_item, fits_value, is_in_range, has_mode, has_item, has_its_server, has_its_item, needs_running, starts_running, starts_too_often, need_fault, source_fault, listener_fault, or_fault, set_fault, content_fault, any_form_fault, verdict, content_verdict, line_or_fault}
+use Rattle.scenario.specs.Faults.{misses_set, is_in_place, is_between, fits_mode, is_within, in_bounds, is_server, is_item, fits_value, is_in_range, has_item, has_its_server, has_its_item, needs_running, starts_running, starts_too_often, need_fault, source_fault, listener_fault, or_fault, set_fault, content_fault, any_form_fault, verdict, content_verdict, line_or_fault}
 use Rattle.scenario.proofs.TableLemmas.{AreBelow, all_below, all_suit, bounds_low, low_bound, low_bounds}
 use Rattle.scenario.proofs.FaultLemmas.{placed_row}
 
@@ -197,11 +197,10 @@ ranged : (r : Bool) (rest : Option FaultKind) (k : FaultKind) (f : Form) → res
 ranged true rest k f h = ap (λ v. verdict v (Some f)) h
 ranged false rest k f h = refl
 
-no_item : (rules : Rules) (before : List Line) (f : Form) → has_mode rules f ≡ true → has_its_server before f ≡ true → has_its_item before f ≡ false
+no_item : (rules : Rules) (before : List Line) (f : Form) → has_its_server before f ≡ true → has_its_item before f ≡ false
     → content_verdict rules before f ≡ Err (cond (is_in_range f) kind.NoSuchItem kind.OutOfRange)
-no_item rules before f b s i = ranged (is_in_range f) (set_fault rules before f) kind.NoSuchItem f
-    (ap (λ x. cond (not x) (Some kind.ModeNotBuilt) (cond (not (has_its_server before f)) (Some kind.NoSuchServer) (server_rest rules before f))) b
-    ∙ ap (λ x. cond (not x) (Some kind.NoSuchServer) (server_rest rules before f)) s
+no_item rules before f s i = ranged (is_in_range f) (set_fault rules before f) kind.NoSuchItem f
+    (ap (λ x. cond (not x) (Some kind.NoSuchServer) (server_rest rules before f)) s
     ∙ ap (λ x. cond (not x) (Some kind.NoSuchItem) (item_rest rules before f)) i)
 
 -- a number is as it was, or within no bounds below the cap, capped or not
@@ -243,14 +242,14 @@ range_hole rules before F low high n h f =
     ]
 
 item_hole : (rules : Rules) (before : List Line) (F : ℕ → Form) (n : ℕ) → items_in before < 2 ^ 64 - 1
-    → ((m : ℕ) → has_mode rules (F m) ≡ true) → ((m : ℕ) → has_its_server before (F m) ≡ true) → ((m : ℕ) → has_its_item before (F m) ≡ has_item before m)
+    → ((m : ℕ) → has_its_server before (F m) ≡ true) → ((m : ℕ) → has_its_item before (F m) ≡ has_item before m)
     → ((m k : ℕ) → is_in_range (F m) ≡ is_in_range (F k))
     → content_verdict rules before (F (capped n)) ≡ content_verdict rules before (F n)
-item_hole rules before F n h b s i r =
+item_hole rules before F n h s i r =
     elim (same_number 1 (items_in before) n h) [
-      | inl both ↦ no_item rules before (F (capped n)) (b (capped n)) (s (capped n)) (i (capped n) ∙ both.0)
+      | inl both ↦ no_item rules before (F (capped n)) (s (capped n)) (i (capped n) ∙ both.0)
           ∙ ap (λ x. Err (cond x kind.NoSuchItem kind.OutOfRange)) (r (capped n) n)
-          ∙ sym (no_item rules before (F n) (b n) (s n) (i n ∙ both.1))
+          ∙ sym (no_item rules before (F n) (s n) (i n ∙ both.1))
       | inr e ↦ ap (λ m. content_verdict rules before (F m)) e
     ]
 
@@ -362,7 +361,7 @@ content_capped rules before (form.Items items queue oldest) s i p =
     range_hole rules before (λ n. form.Items n (capped queue) oldest) 1 64 items (omega arith) (λ m h. and_left _ _ h)
     ∙ range_hole rules before (λ n. form.Items items n oldest) 2 1000 queue (omega arith) (λ m h. and_right _ _ h)
 content_capped rules before (form.Change item time pico value) s i p =
-    item_hole rules before (λ n. form.Change n (capped time) (mapped capped pico) (capped_integer value)) item i (λ _. refl) (λ _. refl) (λ _. refl) (λ _ _. refl)
+    item_hole rules before (λ n. form.Change n (capped time) (mapped capped pico) (capped_integer value)) item i (λ _. refl) (λ _. refl) (λ _ _. refl)
     ∙ range_hole rules before (λ n. form.Change item n (mapped capped pico) (capped_integer value)) 1 (10 ^ 18) time (omega arith) (λ m h. and_left _ _ (and_left _ _ h))
     ∙ pico_hole rules before item time pico (capped_integer value)
     ∙ value_hole rules before item time pico value

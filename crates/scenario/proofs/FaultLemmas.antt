@@ -22,7 +22,7 @@ use Rattle.scenario.specs.Rules.{allows, allows_rule, allows_set}
 use Rattle.scenario.specs.Words.{words_of}
 use Rattle.scenario.specs.Grammar.{form_of}
 use Rattle.scenario.specs.Past.{is_direct_in, servers_in, items_in, changes_in, boot_of, listens_in, attached_in}
-use Rattle.scenario.specs.Faults.{misses_set, is_in_place, is_between, is_plain, fits_mode, is_within, is_in_range, has_mode, has_its_server, has_its_item, needs_running, starts_running, starts_too_often, the_change, kind_of_refusal, change_fault, source_fault, listener_fault, or_fault, form_fault, any_form_fault, fault_of, line_of, verdict, line_or_fault}
+use Rattle.scenario.specs.Faults.{misses_set, is_in_place, is_between, is_plain, fits_mode, is_within, is_in_range, has_its_server, has_its_item, needs_running, starts_running, starts_too_often, the_change, kind_of_refusal, change_fault, source_fault, listener_fault, or_fault, form_fault, any_form_fault, fault_of, line_of, verdict, line_or_fault}
 use Rattle.scenario.specs.Reading.{MayFollow}
 use Rattle.scenario.proofs.TableLemmas.{AllPassed, within_range, names_server}
 
@@ -42,7 +42,6 @@ or_none (Some k) p h = absurd cc
 pub record Passes (rules : Rules) (before : List Line) (f : Form) : Type 0 where
   pub place : is_in_place rules before f ≡ true
   pub range : is_in_range f ≡ true
-  pub built : has_mode rules f ≡ true
   pub server : has_its_server before f ≡ true
   pub item : has_its_item before f ≡ true
   pub running : needs_running before f ≡ false
@@ -51,10 +50,9 @@ pub record Passes (rules : Rules) (before : List Line) (f : Form) : Type 0 where
   pub source : source_fault rules before f ≡ None
   pub listener : listener_fault rules before f ≡ None
 
-record Tests (p r b s i n a t : Bool) (src lis : Option FaultKind) : Type 0 where
+record Tests (p r s i n a t : Bool) (src lis : Option FaultKind) : Type 0 where
   place : p ≡ true
   range : r ≡ true
-  built : b ≡ true
   server : s ≡ true
   item : i ≡ true
   running : n ≡ false
@@ -63,30 +61,28 @@ record Tests (p r b s i n a t : Bool) (src lis : Option FaultKind) : Type 0 wher
   source : src ≡ None
   listener : lis ≡ None
 
-tests : (p r b s i n a t : Bool) (src lis : Option FaultKind)
-    → cond (not p) (Some kind.BadLine) (cond (not r) (Some kind.OutOfRange) (cond (not b) (Some kind.ModeNotBuilt) (cond (not s) (Some kind.NoSuchServer)
-    (cond (not i) (Some kind.NoSuchItem) (cond n (Some kind.NotRunning) (cond a (Some kind.AlreadyRunning) (cond t (Some kind.TooManyStarts) (or_fault src lis)))))))) ≡ None
-    → Tests p r b s i n a t src lis
-tests p r b s i n a t src lis h =
-    let h1 = passed_not p _ (cond (not r) (Some kind.OutOfRange) (cond (not b) (Some kind.ModeNotBuilt) (cond (not s) (Some kind.NoSuchServer)
-    (cond (not i) (Some kind.NoSuchItem) (cond n (Some kind.NotRunning) (cond a (Some kind.AlreadyRunning) (cond t (Some kind.TooManyStarts) (or_fault src lis)))))))) h in
-    let h2 = passed_not r _ (cond (not b) (Some kind.ModeNotBuilt) (cond (not s) (Some kind.NoSuchServer)
-    (cond (not i) (Some kind.NoSuchItem) (cond n (Some kind.NotRunning) (cond a (Some kind.AlreadyRunning) (cond t (Some kind.TooManyStarts) (or_fault src lis))))))) h1.1 in
-    let h3 = passed_not b _ (cond (not s) (Some kind.NoSuchServer)
-    (cond (not i) (Some kind.NoSuchItem) (cond n (Some kind.NotRunning) (cond a (Some kind.AlreadyRunning) (cond t (Some kind.TooManyStarts) (or_fault src lis)))))) h2.1 in
-    let h4 = passed_not s _ (cond (not i) (Some kind.NoSuchItem) (cond n (Some kind.NotRunning) (cond a (Some kind.AlreadyRunning) (cond t (Some kind.TooManyStarts) (or_fault src lis))))) h3.1 in
+tests : (p r s i n a t : Bool) (src lis : Option FaultKind)
+    → cond (not p) (Some kind.BadLine) (cond (not r) (Some kind.OutOfRange) (cond (not s) (Some kind.NoSuchServer)
+    (cond (not i) (Some kind.NoSuchItem) (cond n (Some kind.NotRunning) (cond a (Some kind.AlreadyRunning) (cond t (Some kind.TooManyStarts) (or_fault src lis))))))) ≡ None
+    → Tests p r s i n a t src lis
+tests p r s i n a t src lis h =
+    let h1 = passed_not p _ (cond (not r) (Some kind.OutOfRange) (cond (not s) (Some kind.NoSuchServer)
+    (cond (not i) (Some kind.NoSuchItem) (cond n (Some kind.NotRunning) (cond a (Some kind.AlreadyRunning) (cond t (Some kind.TooManyStarts) (or_fault src lis))))))) h in
+    let h2 = passed_not r _ (cond (not s) (Some kind.NoSuchServer)
+    (cond (not i) (Some kind.NoSuchItem) (cond n (Some kind.NotRunning) (cond a (Some kind.AlreadyRunning) (cond t (Some kind.TooManyStarts) (or_fault src lis)))))) h1.1 in
+    let h4 = passed_not s _ (cond (not i) (Some kind.NoSuchItem) (cond n (Some kind.NotRunning) (cond a (Some kind.AlreadyRunning) (cond t (Some kind.TooManyStarts) (or_fault src lis))))) h2.1 in
     let h5 = passed_not i _ (cond n (Some kind.NotRunning) (cond a (Some kind.AlreadyRunning) (cond t (Some kind.TooManyStarts) (or_fault src lis)))) h4.1 in
     let h6 = passed n _ (cond a (Some kind.AlreadyRunning) (cond t (Some kind.TooManyStarts) (or_fault src lis))) h5.1 in
     let h7 = passed a _ (cond t (Some kind.TooManyStarts) (or_fault src lis)) h6.1 in
     let h8 = passed t _ (or_fault src lis) h7.1 in
     let h9 = or_none src lis h8.1 in
-    record { place = h1.0; range = h2.0; built = h3.0; server = h4.0; item = h5.0; running = h6.0; stopped = h7.0; boots = h8.0; source = h9.0; listener = h9.1 }
+    record { place = h1.0; range = h2.0; server = h4.0; item = h5.0; running = h6.0; stopped = h7.0; boots = h8.0; source = h9.0; listener = h9.1 }
 
 pub passes : (rules : Rules) (before : List Line) (f : Form) → form_fault rules before f ≡ None → Passes rules before f
 passes rules before f h =
-    let all = tests (is_in_place rules before f) (is_in_range f) (has_mode rules f) (has_its_server before f) (has_its_item before f) (needs_running before f)
+    let all = tests (is_in_place rules before f) (is_in_range f) (has_its_server before f) (has_its_item before f) (needs_running before f)
     (starts_running before f) (starts_too_often before f) (source_fault rules before f) (listener_fault rules before f) h in
-    record { place = all.place; range = all.range; built = all.built; server = all.server; item = all.item; running = all.running; stopped = all.stopped; boots = all.boots; source = all.source; listener = all.listener }
+    record { place = all.place; range = all.range; server = all.server; item = all.item; running = all.running; stopped = all.stopped; boots = all.boots; source = all.source; listener = all.listener }
 
 pub verdict_ok : (o : Option FaultKind) (g : Option Form) (l : Line) → verdict o g ≡ Ok l → (o ≡ None) × (f : Form) × (g ≡ Some f) × (line_of f ≡ l)
 verdict_ok (Some k) g l h = absurd cc

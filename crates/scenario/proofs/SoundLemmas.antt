@@ -13,7 +13,7 @@ use Rattle.scenario.specs.Past.{is_direct, sets_direct, is_direct_in, servers_of
 use Rattle.ua_base.specs.declared.modes.SetMode.{SetMode}
 use Rattle.ua_base.specs.declared.modes.SetMode.TheVariants.{Hot, Warm, Cold}
 use Rattle.scenario.specs.declared.rules.Rules.{Rules}
-use Rattle.scenario.specs.Rules.{is_built, rules_of_all}
+use Rattle.scenario.specs.Rules.{rules_of_replay}
 use Rattle.scenario.specs.Texts.{written}
 use Rattle.scenario.specs.Scenario.{scenario_of}
 use Rattle.scenario.proofs.StandLemmas.{stands_may, standing_read}
@@ -37,7 +37,7 @@ record IsPlain (l : Line) : Type 0 where
 
 -- such a line may stand after these
 record IsNext (pool : ℕ) (before : List Line) (l : Line) : Type 0 where
-  stands : Stands (rules_of_all pool) before l
+  stands : Stands (rules_of_replay pool) before l
   plain : IsPlain l
 
 either : (pool : ℕ) (before : List Line) (b : Bool) (x y : Line) → IsNext pool before x → IsNext pool before y → IsNext pool before (cond b x y)
@@ -223,7 +223,7 @@ plain_sound time before l h p =
 pub other_sound : (time : ℕ) (before : List Line) (number state : ℕ) → IsSound time before → IsSound time (before ++ line_drawn before number state ∷ [])
 other_sound time before number state h = plain_sound time before (line_drawn before number state) h (line_next 0 time before number state h).plain
 
-pub other_stands : (pool time : ℕ) (before : List Line) (number state : ℕ) → IsSound time before → Stands (rules_of_all pool) before (line_drawn before number state)
+pub other_stands : (pool time : ℕ) (before : List Line) (number state : ℕ) → IsSound time before → Stands (rules_of_replay pool) before (line_drawn before number state)
 other_stands pool time before number state h = (line_next pool time before number state h).stands
 
 -- the next change
@@ -277,7 +277,7 @@ value_small : (n : ℕ) → n < 200000 → nat_lt (n + 1) (2 ^ 63) ≡ true
 value_small n h = grind (arith, nat_tests)
 
 pub change_stands : (pool time : ℕ) (before : List Line) (state : ℕ) → IsSound time before → length before < 200000
-    → Stands (rules_of_all pool) before (line.Change (change_drawn before time state))
+    → Stands (rules_of_replay pool) before (line.Change (change_drawn before time state))
 change_stands pool time before state h few =
     let d : second_draw 10 state < 10 = drawn_below 10 (next_state (next_state state)) (omega arith) in
     let early : time + 20 ≤ 10 * length before = h.early in
@@ -357,7 +357,7 @@ other_sound_at time before number state l now e g h =
 pub other_may : (time : ℕ) (before : List Line) (number state : ℕ) (l : Line) → l ≡ line_drawn before number state → IsSound time before → MayFollow before l
 other_may time before number state l e h =
     let P : Line → Type 0 = λ m. MayFollow before m in
-    subst P (sym e) (stands_may (rules_of_all 0) before (line_drawn before number state) (other_stands 0 time before number state h))
+    subst P (sym e) (stands_may (rules_of_replay 0) before (line_drawn before number state) (other_stands 0 time before number state h))
 
 -- the first two lines
 begin_sound : (mode : SetMode) (servers items queue : ℕ) → is_direct mode ≡ false → IsFrom 1 8 servers → IsFrom 1 64 items → IsSound 0 (line.Set mode servers ∷ line.Items items queue true ∷ [])
@@ -379,11 +379,6 @@ over_case true second = refl
 over_case false true = refl
 over_case false false = refl
 
-built_case : (first second : Bool) → is_built (rules_of_all 0).built (cond first Hot (cond second Warm Cold)) ≡ true
-built_case true second = refl
-built_case false true = refl
-built_case false false = refl
-
 pub begun_sound : (seed : ℕ) → IsSound 0 (begun seed).lines
 begun_sound seed =
     let number : ℕ = first_draw 3 seed in
@@ -392,12 +387,12 @@ begun_sound seed =
     let items : first_draw 4 (next_state (next_state seed)) < 4 = drawn_below 4 (next_state state) (omega arith) in
     begin_sound (mode_of_draw number) (2 + second_draw 3 seed) (1 + first_draw 4 state) (2 + second_draw 9 state) (over_case (number == 0) (number == 1)) (omega arith, omega arith) (omega arith, omega arith)
 
-set_stands : (pool seed : ℕ) → Stands (rules_of_all pool) [] (set_drawn seed)
+set_stands : (pool seed : ℕ) → Stands (rules_of_replay pool) [] (set_drawn seed)
 set_stands pool seed =
     let servers : second_draw 3 seed < 3 = drawn_below 3 (next_state (next_state seed)) (omega arith) in
-    (refl, refl, built_case (first_draw 3 seed == 0) (first_draw 3 seed == 1), (omega arith, omega arith))
+    (refl, refl, (omega arith, omega arith))
 
-items_stand : (pool state : ℕ) (first : Line) → Stands (rules_of_all pool) (first ∷ []) (items_drawn state)
+items_stand : (pool state : ℕ) (first : Line) → Stands (rules_of_replay pool) (first ∷ []) (items_drawn state)
 items_stand pool state first =
     let items : first_draw 4 state < 4 = drawn_below 4 (next_state state) (omega arith) in
     let queue : second_draw 9 state < 9 = drawn_below 9 (next_state (next_state state)) (omega arith) in
@@ -407,7 +402,7 @@ items_stand pool state first =
 record Grows (pool : ℕ) (c d : Course) : Type 0 where
   added : Line
   lines_are : d.lines ≡ c.lines ++ added ∷ []
-  stands : Stands (rules_of_all pool) c.lines added
+  stands : Stands (rules_of_replay pool) c.lines added
   sound : IsSound d.time d.lines
 
 grows_by : (pool number : ℕ) (c : Course) (change : Bool) → IsSound c.time c.lines → length c.lines < 200000 → Grows pool c (cond change (changed c) (other number c))
@@ -433,7 +428,7 @@ grows pool c h few =
 -- the lines so far: each may stand after those before it
 record Goes (pool count : ℕ) (c : Course) : Type 0 where
   sound : IsSound c.time c.lines
-  stand : AllStand (rules_of_all pool) [] c.lines
+  stand : AllStand (rules_of_replay pool) [] c.lines
   long : length c.lines ≡ count + 2
 
 all_stand_more : (rules : Rules) (before ls : List Line) (l : Line) → AllStand rules before ls → Stands rules (before ++ ls) l → AllStand rules before (ls ++ l ∷ [])
@@ -444,11 +439,11 @@ all_stand_more rules before (m ∷ ls) l h k =
 
 goes_more : (pool count : ℕ) (c d : Course) → Goes pool count c → Grows pool c d → Goes pool (count + 1) d
 goes_more pool count c d h g =
-    let P : List Line → Type 0 = λ ls. AllStand (rules_of_all pool) [] ls in
+    let P : List Line → Type 0 = λ ls. AllStand (rules_of_replay pool) [] ls in
     let was : length c.lines ≡ count + 2 = h.long in
     let now : length d.lines ≡ length (c.lines ++ g.added ∷ []) = ap length g.lines_are in
     let grown : length (c.lines ++ g.added ∷ []) ≡ length c.lines + 1 = long_more c.lines g.added in
-    record { sound = g.sound; stand = subst P (sym g.lines_are) (all_stand_more (rules_of_all pool) [] c.lines g.added h.stand g.stands); long = omega arith }
+    record { sound = g.sound; stand = subst P (sym g.lines_are) (all_stand_more (rules_of_replay pool) [] c.lines g.added h.stand g.stands); long = omega arith }
 
 goes : (pool count seed : ℕ) → count < 199999 → Goes pool count (course_of count seed)
 goes pool zero seed few = record { sound = begun_sound seed; stand = (set_stands pool seed, (items_stand pool (next_state (next_state seed)) (set_drawn seed), tt)); long = refl }
@@ -459,7 +454,7 @@ goes pool (suc count) seed few =
     let lengths : length (one_more (course_of count seed)).lines ≡ (count + 1) + 2 = after.long in
     record { sound = after.sound; stand = after.stand; long = omega arith }
 
-end_stands : (pool time : ℕ) (before : List Line) → IsSound time before → Stands (rules_of_all pool) before line.End
+end_stands : (pool time : ℕ) (before : List Line) → IsSound time before → Stands (rules_of_replay pool) before line.End
 end_stands pool time before h = record { between = between time before h; allowed = refl; of_mode = refl; suit = tt; needs = tt }
 
 -- a generated scenario has so many lines
@@ -471,28 +466,28 @@ generated_long seed lines low high =
     omega arith
 
 -- and each may stand after those before it
-pub generated_stand : (pool seed lines : ℕ) → 3 ≤ lines → lines ≤ 200000 → AllStand (rules_of_all pool) [] (generated seed lines)
+pub generated_stand : (pool seed lines : ℕ) → 3 ≤ lines → lines ≤ 200000 → AllStand (rules_of_replay pool) [] (generated seed lines)
 generated_stand pool seed lines low high =
     let g = goes pool (lines - 3) seed (omega arith) in
     let c : Course = course_of (lines - 3) seed in
-    all_stand_more (rules_of_all pool) [] c.lines line.End g.stand (end_stands pool c.time c.lines g.sound)
+    all_stand_more (rules_of_replay pool) [] c.lines line.End g.stand (end_stands pool c.time c.lines g.sound)
 
-pub generated_read : (pool seed lines : ℕ) → 3 ≤ lines → lines ≤ 200000 → scenario_of (rules_of_all pool) (written (generated seed lines)) ≡ Ok (generated seed lines)
+pub generated_read : (pool seed lines : ℕ) → 3 ≤ lines → lines ≤ 200000 → scenario_of (rules_of_replay pool) (written (generated seed lines)) ≡ Ok (generated seed lines)
 generated_read pool seed lines low high =
     let long : length (generated seed lines) ≡ lines = generated_long seed lines low high in
-    standing_read (rules_of_all pool) (course_of (lines - 3) seed).lines (generated_stand pool seed lines low high) (omega arith)
+    standing_read (rules_of_replay pool) (course_of (lines - 3) seed).lines (generated_stand pool seed lines low high) (omega arith)
 
 pub set_may : (seed : ℕ) (before : List Line) (l : Line) → before ≡ [] → l ≡ set_drawn seed → MayFollow before l
 set_may seed before l e g =
     let P : List Line → Type 0 = λ ls. MayFollow ls l in
     let Q : Line → Type 0 = λ m. MayFollow [] m in
-    subst P (sym e) (subst Q (sym g) (stands_may (rules_of_all 0) [] (set_drawn seed) (set_stands 0 seed)))
+    subst P (sym e) (subst Q (sym g) (stands_may (rules_of_replay 0) [] (set_drawn seed) (set_stands 0 seed)))
 
 pub items_may : (state : ℕ) (before : List Line) (first l : Line) → before ≡ first ∷ [] → l ≡ items_drawn state → MayFollow before l
 items_may state before first l e g =
     let P : List Line → Type 0 = λ ls. MayFollow ls l in
     let Q : Line → Type 0 = λ m. MayFollow (first ∷ []) m in
-    subst P (sym e) (subst Q (sym g) (stands_may (rules_of_all 0) (first ∷ []) (items_drawn state) (items_stand 0 state first)))
+    subst P (sym e) (subst Q (sym g) (stands_may (rules_of_replay 0) (first ∷ []) (items_drawn state) (items_stand 0 state first)))
 
 pub begun_sound_at : (seed : ℕ) (lines : List Line) → lines ≡ (begun seed).lines → IsSound 0 lines
 begun_sound_at seed lines e = let P : List Line → Type 0 = λ ls. IsSound 0 ls in subst P (sym e) (begun_sound seed)

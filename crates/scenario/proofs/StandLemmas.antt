@@ -29,7 +29,7 @@ use Rattle.scenario.specs.Rules.{allows_rule, allows_set}
 use Rattle.scenario.specs.Texts.{line_text, written}
 use Rattle.scenario.specs.Grammar.{written_form}
 use Rattle.scenario.specs.Past.{servers_of, items_of, servers_in, items_in, changes_in, is_running, boot_of, listens_in, attached_in}
-use Rattle.scenario.specs.Faults.{is_in_place, is_between, is_within, is_in_range, fits_value, has_mode, pico_of, the_change, kind_of_refusal, change_fault, has_its_server, has_its_item, needs_running, starts_running, starts_too_often, lacks_running, runs_already, lacks_boot, finds_no_listener, is_attached, is_unattached, source_fault, listener_fault, or_fault, form_fault, line_of}
+use Rattle.scenario.specs.Faults.{is_in_place, is_between, is_within, is_in_range, fits_value, pico_of, the_change, kind_of_refusal, change_fault, has_its_server, has_its_item, needs_running, starts_running, starts_too_often, lacks_running, runs_already, lacks_boot, finds_no_listener, is_attached, is_unattached, source_fault, listener_fault, or_fault, form_fault, line_of}
 use Rattle.scenario.specs.Scenario.{scenario_of}
 use Rattle.scenario.specs.Words.{lines_of}
 use Rattle.scenario.specs.Valid.{IsBetween, MayCome, Meets, RowStands, ShapeStands, Stands, AllStand}
@@ -42,17 +42,17 @@ use Rattle.scenario.proofs.ReadLemmas.{AllRead, IsRead, read_by_form, line_of-wr
 use Rattle.scenario.proofs.WrittenLemmas.{Small, small_more, few_of, text_of}
 
 -- a form that passes each test has no fault
-untested : (p r b s i n a t : Bool) (src lis : Option FaultKind)
-    → p ≡ true → r ≡ true → b ≡ true → s ≡ true → i ≡ true → n ≡ false → a ≡ false → t ≡ false → src ≡ None → lis ≡ None
-    → cond (not p) (Some kind.BadLine) (cond (not r) (Some kind.OutOfRange) (cond (not b) (Some kind.ModeNotBuilt) (cond (not s) (Some kind.NoSuchServer)
-    (cond (not i) (Some kind.NoSuchItem) (cond n (Some kind.NotRunning) (cond a (Some kind.AlreadyRunning) (cond t (Some kind.TooManyStarts) (or_fault src lis)))))))) ≡ None
-untested p r b s i n a t src lis h1 h2 h3 h4 h5 h6 h7 h8 h9 h10 = rw (h1, h2, h3, h4, h5, h6, h7, h8, h9, h10) refl
+untested : (p r s i n a t : Bool) (src lis : Option FaultKind)
+    → p ≡ true → r ≡ true → s ≡ true → i ≡ true → n ≡ false → a ≡ false → t ≡ false → src ≡ None → lis ≡ None
+    → cond (not p) (Some kind.BadLine) (cond (not r) (Some kind.OutOfRange) (cond (not s) (Some kind.NoSuchServer)
+    (cond (not i) (Some kind.NoSuchItem) (cond n (Some kind.NotRunning) (cond a (Some kind.AlreadyRunning) (cond t (Some kind.TooManyStarts) (or_fault src lis))))))) ≡ None
+untested p r s i n a t src lis h1 h2 h3 h4 h5 h6 h7 h8 h9 = rw (h1, h2, h3, h4, h5, h6, h7, h8, h9) refl
 
 sound : (rules : Rules) (before : List Line) (f : Form) → Passes rules before f → form_fault rules before f ≡ None
 sound rules before f h =
-    untested (is_in_place rules before f) (is_in_range f) (has_mode rules f) (has_its_server before f) (has_its_item before f) (needs_running before f)
+    untested (is_in_place rules before f) (is_in_range f) (has_its_server before f) (has_its_item before f) (needs_running before f)
     (starts_running before f) (starts_too_often before f) (source_fault rules before f) (listener_fault rules before f)
-    h.place h.range h.built h.server h.item h.running h.stopped h.boots h.source h.listener
+    h.place h.range h.server h.item h.running h.stopped h.boots h.source h.listener
 
 -- a form that passes each test, of a line
 record FormOf (rules : Rules) (before : List Line) (l : Line) : Type 0 where
@@ -148,7 +148,6 @@ row_passes rules before n said h =
     record {
       place = both_true _ _ (between_test before h.between) (both_true _ _ (both_true _ _ h.allowed h.of_mode) p.count);
       range = p.range;
-      built = refl;
       server = p.server;
       item = p.item;
       running = q.running;
@@ -164,8 +163,7 @@ form_of_shape rules before (shape.Set mode servers) l h is = record {
   is = is;
   passes = record {
     place = first_place (length before) (allows_set rules.sets mode servers) h.0 h.1;
-    range = within_is 1 8 servers h.3;
-    built = h.2;
+    range = within_is 1 8 servers h.2;
     server = refl;
     item = refl;
     running = refl;
@@ -181,7 +179,6 @@ form_of_shape rules before (shape.Items items queue oldest) l h is = record {
   passes = record {
     place = second_place (length before) (allows_rule rules.allowed oldest) h.0 h.1;
     range = both_true _ _ (within_is 1 64 items h.2) (within_is 2 1000 queue h.3);
-    built = refl;
     server = refl;
     item = refl;
     running = refl;
@@ -199,7 +196,6 @@ form_of_shape rules before (shape.Change c) l h is = record {
     range = both_true _ _ (both_true _ _ (within_is 1 (10 ^ 18) h.1.time h.1.time_fits) (within_is 0 9999 c.pico (omega arith, h.1.pico_fits))) h.1.value_fits;
     item = within_is 1 (items_in before) c.item h.1.item_fits;
     source = ap (change_fault rules before) (change_is h.1.time c h.1.time_is) ∙ may_come rules before c h.2;
-    built = refl;
     server = refl;
     running = refl;
     stopped = refl;
@@ -274,7 +270,7 @@ row_stands rules before n said h =
 stands : (rules : Rules) (before : List Line) (f : Form) → Passes rules before f → Stands rules before (line_of f)
 stands rules before (form.Set mode servers) h =
     let p = set_place (length before) (allows_set rules.sets mode servers) h.place in
-    (p.0, p.1, h.built, within_range 1 8 servers h.range)
+    (p.0, p.1, within_range 1 8 servers h.range)
 stands rules before (form.Items items queue oldest) h =
     let parts = and_parts (is_within 1 64 items) (is_within 2 1000 queue) h.range in
     let p = items_place (length before) (allows_rule rules.allowed oldest) h.place in

@@ -26,7 +26,7 @@ use Rattle.scenario.specs.declared.table.Name.{Name}
 use Rattle.scenario.specs.declared.table.Name.TheVariants as name
 use Rattle.scenario.specs.declared.table.Numbers.{Numbers}
 use Rattle.scenario.specs.Table.{row_of, line_with, shape_of, first_of, second_of}
-use Rattle.scenario.specs.Rules.{allows_rule, allows_set, is_built}
+use Rattle.scenario.specs.Rules.{allows_rule, allows_set}
 use Rattle.scenario.specs.Words.{lines_of}
 use Rattle.scenario.specs.Past.{servers_of, items_of, servers_in, items_in, change_of, changes_in, ends, has_ended, starts, boot_of, listens, listens_in, attached_in}
 use Rattle.scenario.specs.Faults.{is_within, is_between, fits_value, kind_of_refusal, change_fault, pico_of, the_change, line_of, line_or_fault}
@@ -345,7 +345,6 @@ record First (rules : Rules) (l : Line) : Type 0 where
   servers : ℕ
   is : l ≡ line.Set mode servers
   allowed : allows_set rules.sets mode servers ≡ true
-  built : is_built rules.built mode ≡ true
   fits : IsFrom 1 8 servers
 
 record Second (rules : Rules) (l : Line) : Type 0 where
@@ -372,7 +371,6 @@ first_form rules (form.Set mode servers) p = record {
   servers = servers;
   is = refl;
   allowed = (set_place 0 (allows_set rules.sets mode servers) p.place).1;
-  built = p.built;
   fits = within_range 1 8 servers p.range;
 }
 first_form rules (form.Items items queue oldest) p = absurd (false_true p.place)
@@ -448,7 +446,6 @@ scenario_from rules (l ∷ (m ∷ rest)) h k =
           ∙ ap (λ x. line.Set a.mode a.servers ∷ (line.Items b.items b.queue b.oldest ∷ x)) c.rest_is;
       set_allowed = a.allowed;
       rule_allowed = b.allowed;
-      mode_built = a.built;
       servers_fit = a.fits;
       items_fit = b.items_fit;
       queue_fits = b.queue_fits;

@@ -25,7 +25,7 @@ use Rattle.scenario.specs.declared.table.Row.{Row}
 use Rattle.scenario.specs.Words.{words_of}
 use Rattle.scenario.specs.Grammar.{form_of}
 use Rattle.scenario.specs.Table.{row_of, first_of, second_of, line_with, counts, all_pass}
-use Rattle.scenario.specs.Rules.{allows, allows_rule, allows_set, is_built}
+use Rattle.scenario.specs.Rules.{allows, allows_rule, allows_set}
 use Rattle.scenario.specs.Past.{is_direct_in, servers_in, items_in, changes_in, is_running, boot_of, has_ended}
 use Rattle.scenario.specs.Past.{listens_in, attached_in}
 
@@ -87,11 +87,6 @@ is_in_range (form.Items items queue oldest) = is_within 1 64 items && is_within 
 is_in_range (form.Change item time pico value) =
     is_within 1 (10 ^ 18) time && is_within 0 9999 (pico_of pico) && fits_value value
 is_in_range (form.Plain name said) = all_pass in_bounds (row_of name).arguments said
-
--- ModeNotBuilt
-abbrev pub has_mode : Rules → Form → Bool
-has_mode rules (form.Set mode servers) = is_built rules.built mode
-has_mode rules _ = true
 
 -- NoSuchServer: where there are so many
 abbrev pub is_server : ℕ → Argument → ℕ → Bool
@@ -211,8 +206,7 @@ need_fault rules before needed number =
 -- the rest of the order, for a line whose numbers are in range
 abbrev pub set_fault : Rules → List Line → Form → Option FaultKind
 set_fault rules before f =
-    if not (has_mode rules f) then Some kind.ModeNotBuilt
-    else if not (has_its_server before f) then Some kind.NoSuchServer
+    if not (has_its_server before f) then Some kind.NoSuchServer
     else if not (has_its_item before f) then Some kind.NoSuchItem
     else if needs_running before f then Some kind.NotRunning
     else if starts_running before f then Some kind.AlreadyRunning

@@ -1,10 +1,9 @@
 -- How a command judges a scenario.
 use Rattle.std.specs.Prelude.{ℕ, ◌==◌, Bool, true, false, not}
 use Rattle.ua_base.specs.declared.modes.SetMode.{SetMode}
-use Rattle.ua_base.specs.declared.modes.SetMode.TheVariants.{Direct, Hot, Warm, Cold}
+use Rattle.ua_base.specs.declared.modes.SetMode.TheVariants.{Hot}
 use Rattle.scenario.specs.declared.rules.Sets.{Sets}
 use Rattle.scenario.specs.declared.rules.Sets.TheVariants as sets
-use Rattle.scenario.specs.declared.rules.Built.{Built}
 use Rattle.scenario.specs.declared.rules.Allowed.{Allowed}
 use Rattle.scenario.specs.declared.rules.Rules.{Rules}
 use Rattle.scenario.specs.declared.table.Group.{Group}
@@ -18,13 +17,6 @@ allows_set sets.OverBytes mode servers = not (is_direct mode)
 allows_set sets.OneHot Hot servers = servers == 1
 allows_set sets.OneHot _ servers = false
 
--- the program can run sets in this mode
-abbrev pub is_built : Built → SetMode → Bool
-is_built built Direct = built.direct
-is_built built Hot = built.hot
-is_built built Warm = built.warm
-is_built built Cold = built.cold
-
 -- a full queue may drop its oldest entry always, and its newest where the command has such queues
 abbrev pub allows_rule : Allowed → Bool → Bool
 allows_rule allowed true = true
@@ -37,18 +29,12 @@ allows allowed group.Links = allowed.links
 allows allowed group.Servers = allowed.servers
 allows allowed group.Listeners = allowed.listeners
 
--- the whole language, for a program that runs all modes; `pool` is how many listeners there are
-abbrev pub rules_of_all : ℕ → Rules
-rules_of_all pool = record {
+-- the whole language; `pool` is how many listeners there are
+abbrev pub rules_of_replay : ℕ → Rules
+rules_of_replay pool = record {
   sets = sets.Any;
-  built = record { direct = true; hot = true; warm = true; cold = true };
   allowed = record { links = true; servers = true; listeners = true; newest = true };
   lines = 1000000;
   changes = 200000;
   pool = pool;
 }
-
--- the whole language, of which direct sets alone can be run
-abbrev pub rules_of_replay : ℕ → Rules
-rules_of_replay pool =
-    record (rules_of_all pool) { built = record { direct = true; hot = false; warm = false; cold = false } }

@@ -19,7 +19,7 @@ use Rattle.scenario.specs.declared.table.Numbers.{Numbers}
 use Rattle.scenario.specs.declared.table.Numbers.TheVariants as numbers
 use Rattle.scenario.specs.declared.table.Row.{Row}
 use Rattle.scenario.specs.Table.{shape_of, row_of, first_of}
-use Rattle.scenario.specs.Rules.{allows, allows_rule, allows_set, is_built}
+use Rattle.scenario.specs.Rules.{allows, allows_rule, allows_set}
 use Rattle.scenario.specs.Texts.{line_text}
 use Rattle.scenario.specs.Past.{is_direct_in, servers_in, items_in, changes_in, is_running, boot_of, ends, has_ended}
 use Rattle.scenario.specs.Past.{listens_in, attached_in}
@@ -68,7 +68,6 @@ pub record IsScenario (rules : Rules) (lines : List Line) : Type 0 where
   pub lines_are : lines ≡ line.Set mode servers ∷ (line.Items items queue oldest ∷ (body ++ line.End ∷ []))
   pub set_allowed : allows_set rules.sets mode servers ≡ true
   pub rule_allowed : allows_rule rules.allowed oldest ≡ true
-  pub mode_built : is_built rules.built mode ≡ true
   pub servers_fit : IsFrom 1 8 servers
   pub items_fit : IsFrom 1 64 items
   pub queue_fits : IsFrom 2 1000 queue
@@ -128,8 +127,7 @@ pub record RowStands (rules : Rules) (before : List Line) (row : Row) (said : Nu
 
 abbrev pub ShapeStands : Rules → List Line → Shape → Type 0
 ShapeStands rules before (shape.Set mode servers) =
-    (length before ≡ 0) × (allows_set rules.sets mode servers ≡ true) × (is_built rules.built mode ≡ true)
-    × IsFrom 1 8 servers
+    (length before ≡ 0) × (allows_set rules.sets mode servers ≡ true) × IsFrom 1 8 servers
 ShapeStands rules before (shape.Items items queue oldest) =
     (length before ≡ 1) × (allows_rule rules.allowed oldest ≡ true) × IsFrom 1 64 items × IsFrom 2 1000 queue
 ShapeStands rules before (shape.Change change) =

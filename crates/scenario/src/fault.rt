@@ -15,8 +15,6 @@ pub enum FaultKind {
     BadLine,
     /// A number is outside its range.
     OutOfRange,
-    /// The set's mode is not built yet.
-    ModeNotBuilt,
     /// The set has no server of this number.
     NoSuchServer,
     /// There is no item of this number.
@@ -53,7 +51,6 @@ impl fmt::Display for FaultKind {
             FaultKind::TooLong => "too long",
             FaultKind::BadLine => "bad line",
             FaultKind::OutOfRange => "out of range",
-            FaultKind::ModeNotBuilt => "mode not built",
             FaultKind::NoSuchServer => "no such server",
             FaultKind::NoSuchItem => "no such item",
             FaultKind::NotRunning => "not running",

@@ -5,7 +5,7 @@ ghost use Rattle.scenario.specs.declared.line.Line.{Line};
 ghost use Rattle.scenario.specs.declared.rules.Rules.{Rules};
 ghost use Rattle.scenario.specs.declared.line.Line.TheVariants as line;
 ghost use Rattle.scenario.specs.Generate.{generated};
-ghost use Rattle.scenario.specs.Rules.{rules_of_all};
+ghost use Rattle.scenario.specs.Rules.{rules_of_replay};
 ghost use Rattle.scenario.specs.Words.{lines_of};
 ghost use Rattle.scenario.specs.Grammar.{as_written, form_of, form_text};
 ghost use Rattle.scenario.specs.Scenario.{scenario_of};
@@ -55,7 +55,7 @@ pub fn reads_what_was_written()
 pub fn generated_lines()
     ensures count { (seed lines : ℕ) → 3 ≤ lines → lines ≤ 200000 → length (generated seed lines) ≡ lines }
     ensures stand { (pool seed lines : ℕ) → 3 ≤ lines → lines ≤ 200000 →
-        AllStand (rules_of_all pool) [] (generated seed lines) }
+        AllStand (rules_of_replay pool) [] (generated seed lines) }
     ensures read { (pool seed lines : ℕ) → 3 ≤ lines → lines ≤ 200000 →
-        scenario_of (rules_of_all pool) (written (generated seed lines)) ≡ Ok (generated seed lines) }
+        scenario_of (rules_of_replay pool) (written (generated seed lines)) ≡ Ok (generated seed lines) }
 {}

@@ -21,6 +21,6 @@ pub use fault::{FaultKind, ReadError, ScenarioFault};
 pub use form::Form;
 pub use laws::{generated_lines, grammar, reads_what_was_written, scenarios_are_read, valid_lines};
 pub use line::Line;
-pub use rules::{Allowed, Built, MOST_CHANGES, MOST_LINES, Rules, Sets};
+pub use rules::{Allowed, MOST_CHANGES, MOST_LINES, Rules, Sets};
 pub use table::{Name, Numbers};
 pub use text::{read, read_by, write};

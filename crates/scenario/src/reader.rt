@@ -99,13 +99,11 @@ fn value_of(number: i128) -> Result<i64, FaultKind>
     Ok(number as i64)
 }
 
-fn set_line(rules: Rules, mode: SetMode, servers: u64) -> Result<Line, FaultKind>
-    ensures { (before : List Line) → result ≡ content_verdict rules before (form.Set mode servers) }
+fn set_line(mode: SetMode, servers: u64) -> Result<Line, FaultKind>
+    ensures { (rules : Rules) (before : List Line) →
+        result ≡ content_verdict rules before (form.Set mode servers) }
 {
     let servers = within(servers, 1, 8)? as u8;
-    if !rules.is_built(mode) {
-        return Err(FaultKind::ModeNotBuilt);
-    }
     Ok(Line::Set { mode, servers })
 }
 
@@ -420,7 +418,7 @@ impl Reader {
         ensures { result ≡ content_verdict rules self.now form }
     {
         match form {
-            Form::Set { mode, servers } => set_line(rules, mode, servers),
+            Form::Set { mode, servers } => set_line(mode, servers),
             Form::Items {
                 items,
                 queue,

@@ -1,5 +1,5 @@
 ghost use Rattle.std.specs.Prelude.{◌≡◌};
-ghost use Rattle.scenario.specs.Rules.{allows, allows_rule, allows_set, is_built, rules_of_all, rules_of_replay};
+ghost use Rattle.scenario.specs.Rules.{allows, allows_rule, allows_set, rules_of_replay};
 
 use crate::table::Group;
 use ua_base::SetMode;
@@ -20,15 +20,6 @@ pub enum Sets {
     OneHot,
 }
 
-/// The modes that the program can run.
-#[derive(Clone, Copy, Debug, PartialEq, Eq)]
-pub struct Built {
-    pub direct: bool,
-    pub hot: bool,
-    pub warm: bool,
-    pub cold: bool,
-}
-
 /// The groups of lines that a command's scenarios have, beside those that all have.
 #[derive(Clone, Copy, Debug, PartialEq, Eq)]
 pub struct Allowed {
@@ -43,7 +34,6 @@ pub struct Allowed {
 #[derive(Clone, Copy, Debug, PartialEq, Eq)]
 pub struct Rules {
     pub sets: Sets,
-    pub built: Built,
     pub allowed: Allowed,
     /// The most lines.
     pub lines: usize,
@@ -54,34 +44,12 @@ pub struct Rules {
 }
 
 impl Rules {
-    /// Those of `replay`, which runs direct sets alone.
+    /// Those of `replay`: the whole language.
     pub fn replay(pool: usize) -> Rules
         ensures { result ≡ rules_of_replay pool }
     {
-        let built = Built {
-            direct: true,
-            hot: false,
-            warm: false,
-            cold: false,
-        };
-        Rules {
-            built,
-            ..Rules::all(pool)
-        }
-    }
-
-    /// Those of a program that runs sets in all modes.
-    pub fn all(pool: usize) -> Rules
-        ensures { result ≡ rules_of_all pool }
-    {
         Rules {
             sets: Sets::Any,
-            built: Built {
-                direct: true,
-                hot: true,
-                warm: true,
-                cold: true,
-            },
             allowed: Allowed {
                 links: true,
                 servers: true,
@@ -110,18 +78,6 @@ impl Rules {
         ensures { result ≡ allows_rule self.allowed oldest }
     {
         oldest || self.allowed.newest
-    }
-
-    /// Whether the program can run sets in this mode.
-    pub(crate) fn is_built(self, mode: SetMode) -> bool
-        ensures { result ≡ is_built self.built mode }
-    {
-        match mode {
-            SetMode::Direct => self.built.direct,
-            SetMode::Hot => self.built.hot,
-            SetMode::Warm => self.built.warm,
-            SetMode::Cold => self.built.cold,
-        }
     }
 
     /// Whether a scenario may have lines of this group.

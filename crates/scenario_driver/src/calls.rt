@@ -21,7 +21,7 @@ fn narrow_rules(sets: Sets) -> Rules {
         allowed,
         lines: 7,
         changes: 2,
-        ..Rules::all(0)
+        ..Rules::replay(0)
     }
 }
 
@@ -83,7 +83,7 @@ impl Driver for Scenarios {
     fn answer(&mut self, alloc: Global, words: &[&str], to: &mut String) -> Result<(), Stop> {
         match words {
             ["scenario", pool, text @ ..] => answer_replay(alloc, number(pool)?, text, to),
-            ["all", pool, text @ ..] => answer_by(alloc, Rules::all(number(pool)?), text, to),
+            ["all", pool, text @ ..] => answer_by(alloc, Rules::replay(number(pool)?), text, to),
             ["bytes", text @ ..] => answer_by(alloc, narrow_rules(Sets::OverBytes), text, to),
             ["one", text @ ..] => answer_by(alloc, narrow_rules(Sets::OneHot), text, to),
             ["generate", seed, lines] => {

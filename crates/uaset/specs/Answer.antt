@@ -1,5 +1,7 @@
--- What `replay` answers of its input: the report of the world over the scenario's lines.
-use Rattle.std.specs.Prelude.{◌≡◌, ℕ, List, ◌∷◌, Bool, true, Result, Ok, Err}
+-- What `replay` answers of its input: the report of a world over the scenario's lines, by the set's mode.
+use Rattle.std.specs.Prelude.{◌≡◌, ℕ, List, [], ◌∷◌, Bool, true, Result, Ok, Err}
+use Rattle.ua_base.specs.declared.modes.SetMode.{SetMode}
+use Rattle.ua_base.specs.declared.modes.SetMode.TheVariants.{Direct, Hot, Warm, Cold}
 use Rattle.set_model.specs.declared.line.LogLine.{LogLine}
 use Rattle.set_model.specs.Report.{report_text}
 use Rattle.delivery_log.specs.History.{Act}
@@ -12,10 +14,12 @@ use Rattle.scenario.specs.Rules.{rules_of_replay}
 use Rattle.scenario.specs.Scenario.{scenario_of}
 use Rattle.direct_world.specs.State.{WorldState}
 use Rattle.direct_world.specs.World as world
+use Rattle.set_world.specs.State as bytes
 use Rattle.direct_world.specs.History.{history_of}
 
--- how wide the set is, and whether a full queue of it discards its oldest entry or its newest
+-- the set's mode, how wide it is, and whether a full queue of it discards its oldest entry or its newest
 pub record Size : Type 0 where
+  pub mode : SetMode
   pub servers : ℕ
   pub items : ℕ
   pub queue : ℕ
@@ -23,15 +27,15 @@ pub record Size : Type 0 where
 
 -- of lines that say nothing of a set
 abbrev pub no_size : Size
-no_size = record { servers = 0; items = 0; queue = 2; oldest = true }
+no_size = record { mode = Direct; servers = 0; items = 0; queue = 2; oldest = true }
 
-abbrev pub size_with : ℕ → Line → Size
-size_with servers (line.Items items queue oldest) =
-    record { servers = servers; items = items; queue = queue; oldest = oldest }
-size_with servers _ = no_size
+abbrev pub size_with : SetMode → ℕ → Line → Size
+size_with mode servers (line.Items items queue oldest) =
+    record { mode = mode; servers = servers; items = items; queue = queue; oldest = oldest }
+size_with mode servers _ = no_size
 
 abbrev pub size_after : Line → Line → Size
-size_after (line.Set mode servers) second = size_with servers second
+size_after (line.Set mode servers) second = size_with mode servers second
 size_after _ second = no_size
 
 -- what the first two lines say of the set; a scenario has them
@@ -39,15 +43,36 @@ abbrev pub size_of : List Line → Size
 size_of (first ∷ (second ∷ rest)) = size_after first second
 size_of _ = no_size
 
--- the world at the end of a scenario's lines
+-- the world of a direct set at the end of a scenario's lines
 abbrev pub world_of : List Line → WorldState
 world_of lines = let size = size_of lines in world.world_of size.servers size.items size.oldest size.queue lines
 
+-- a world over bytes after these lines
+abbrev pub world_after_all : List Line → bytes.WorldState → bytes.WorldState
+world_after_all [] w = w
+world_after_all (line ∷ lines) w = world_after_all lines (bytes.world_after line w)
+
+-- the world of a set over bytes at the end of a scenario's lines
+abbrev pub world_over_bytes : List Line → bytes.WorldState
+world_over_bytes lines = let size = size_of lines in
+    world_after_all lines (bytes.new_world size.mode size.servers size.items size.queue size.oldest)
+
+-- the client's log at the end of a scenario's lines, where the set is over bytes
+unfoldable pub log_over_bytes : List Line → List LogLine
+log_over_bytes lines = (world_over_bytes lines).set.client.hub.log.lines
+
+-- the same, where the set is in this mode
+abbrev pub log_in : SetMode → List Line → List LogLine
+log_in Direct lines = (world_of lines).log.lines
+log_in Hot lines = log_over_bytes lines
+log_in Warm lines = log_over_bytes lines
+log_in Cold lines = log_over_bytes lines
+
 -- the client's log at the end of a scenario's lines
 abbrev pub client_log : List Line → List LogLine
-client_log lines = (world_of lines).log.lines
+client_log lines = log_in (size_of lines).mode lines
 
--- what happened to that log
+-- what happened to the log of a direct set
 abbrev pub past_of : List Line → List Act
 past_of lines = let size = size_of lines in history_of size.servers size.items size.oldest size.queue lines
 

@@ -1,5 +1,6 @@
 -- How much each command reads, what it answers of that, and what the answer means.
 use Rattle.std.specs.Prelude.{◌≡◌, ℕ, List, All, Option, Some, None, Result, Ok, Err}
+use Rattle.ua_base.specs.declared.modes.SetMode.TheVariants.{Direct}
 use Rattle.delivery_log.specs.Caused.{Caused}
 use Rattle.delivery_log.specs.Safe.{InOrder, Safe}
 use Rattle.set_model.specs.Report.{report_text}
@@ -22,7 +23,7 @@ use Rattle.uaset.specs.declared.words.Command.{Command}
 use Rattle.uaset.specs.declared.words.Command.TheVariants as command
 use Rattle.uaset.specs.declared.answer.Refusal.{Refusal}
 use Rattle.uaset.specs.declared.answer.Refusal.TheVariants as refusal
-use Rattle.uaset.specs.Answer.{answer_of, client_log, past_of}
+use Rattle.uaset.specs.Answer.{answer_of, client_log, past_of, size_of}
 
 -- ---- what is read
 
@@ -62,19 +63,20 @@ Answered view (Err (refusal.Show place code)) answer = answer ≡ Err (refusal.S
 
 -- ---- what it means
 
--- what the client's log of a scenario's lines is, with the lines' own changes as the one source
+-- what the client's log of a direct set is, with the lines' own changes as the one source
 pub record IsTrustworthy (lines : List Line) : Type 0 where
   pub safe : Safe (changes_in lines) (client_log lines)
   pub order : InOrder (changes_in lines) (client_log lines)
   pub caused : Caused (past_of lines) (client_log lines)
   pub plain : All IsPlain (client_log lines)
 
--- the text is the report of a log that can be trusted; or what the one value holds that the whole input spells; or a
--- line for each of the frames that the input begins with, as many as there are, and how many bytes follow
+-- the text is the report of the client's log of a scenario, which can be trusted where the set is direct: of sets over
+-- bytes no more is said so far than their exact text; or what the one value holds that the whole input spells; or a line
+-- for each of the frames that the input begins with, as many as there are, and how many bytes follow
 abbrev pub Means : ℕ → Command → List ℕ → List ℕ → Type 0
 Means pool command.Replay bytes text =
     (lines : List Line) × (scenario_of (rules_of_replay pool) bytes ≡ Ok lines) × (text ≡ report_text (client_log lines))
-    × IsTrustworthy lines
+    × ((size_of lines).mode ≡ Direct → IsTrustworthy lines)
 Means pool command.ShowValue bytes text = (d : Stamped Variant) × data_value 101 d bytes × (text ≡ value_text d)
 Means pool command.ShowStream bytes text =
     (split : Split) × IsFramed 0 bytes split × (fault_of split.rest ≡ None) × (text ≡ stream_text split)

@@ -1,17 +1,19 @@
-ghost use Rattle.std.specs.Prelude.{◌≡◌, ◌≤◌, IfOk, OnOk};
+ghost use Rattle.std.specs.Prelude.{◌≡◌, ◌≢◌, ◌≤◌, IfOk, OnOk};
 ghost use Rattle.direct_world.specs.World.{after_all};
 ghost use Rattle.set_model.specs.Report.{report_text};
-ghost use Rattle.uaset.specs.Answer.{Renders, answer_of, client_log, size_of};
+ghost use Rattle.ua_base.specs.declared.modes.SetMode.TheVariants.{Direct};
+ghost use Rattle.uaset.specs.Answer.{Renders, answer_of, client_log, size_of, world_of};
+ghost use Rattle.uaset.specs.Answer.{log_over_bytes, world_after_all};
 
-use direct_world::World;
 use scenario::{Line, ReadError};
 use set_model::report_of;
 use std::alloc::Global;
-use ua_base::OutOfMemory;
+use ua_base::{OutOfMemory, SetMode};
 
-/// How wide a set is, and which entry a full queue of it discards, as its first two lines say.
+/// The mode of a set, how wide it is, and which entry a full queue of it discards, as its first two lines say.
 #[derive(Clone, Copy)]
 struct Size {
+    mode: SetMode,
     servers: u8,
     items: u8,
     queue: u32,
@@ -19,6 +21,7 @@ struct Size {
 }
 
 fn size_of(lines: &[Line]) -> Size
+    ensures mode { result.mode ≡ (size_of lines.now).mode }
     ensures servers { result.servers ≡ (size_of lines.now).servers }
     ensures items { result.items ≡ (size_of lines.now).items }
     ensures queue { result.queue ≡ (size_of lines.now).queue }
@@ -26,7 +29,7 @@ fn size_of(lines: &[Line]) -> Size
 {
     match lines {
         [
-            Line::Set { servers, .. },
+            Line::Set { mode, servers },
             Line::Items {
                 items,
                 queue,
@@ -34,12 +37,14 @@ fn size_of(lines: &[Line]) -> Size
             },
             ..
         ] => Size {
+            mode: *mode,
             servers: *servers,
             items: *items,
             queue: *queue,
             oldest: *oldest,
         },
         _ => Size {
+            mode: SetMode::Direct,
             servers: 0,
             items: 0,
             queue: 2,
@@ -49,7 +54,11 @@ fn size_of(lines: &[Line]) -> Size
 }
 
 /// Takes each line in turn.
-fn run_lines(alloc: Global, world: &mut World, lines: &[Line]) -> Result<(), OutOfMemory>
+fn run_direct(
+    alloc: Global,
+    world: &mut direct_world::World,
+    lines: &[Line],
+) -> Result<(), OutOfMemory>
     ensures { OnOk result (world.new ≡ after_all lines.now world.old) }
 {
     for line in lines {
@@ -58,16 +67,68 @@ fn run_lines(alloc: Global, world: &mut World, lines: &[Line]) -> Result<(), Out
     Ok(())
 }
 
-/// The report of the world over a scenario's lines.
-fn report_lines(alloc: Global, lines: &[Line]) -> Result<Vec<u8>, OutOfMemory>
+/// Takes each line in turn.
+fn run_over_bytes(
+    alloc: Global,
+    world: &mut set_world::World,
+    lines: &[Line],
+) -> Result<(), OutOfMemory>
+    ensures { OnOk result (world.new ≡ world_after_all lines.now world.old) }
+{
+    for line in lines {
+        world.line(alloc, line)?;
+    }
+    Ok(())
+}
+
+/// The report of the world of a direct set over a scenario's lines.
+fn report_direct(alloc: Global, lines: &[Line]) -> Result<Vec<u8>, OutOfMemory>
     requires least { 1 ≤ (size_of lines.now).queue }
     requires most { (size_of lines.now).queue ≤ 1000 }
-    ensures { IfOk result (λ text. text.items ≡ report_text (client_log lines.now)) }
+    ensures { IfOk result (λ text. text.items ≡ report_text (world_of lines.now).log.lines) }
 {
     let size = size_of(lines);
-    let mut world = World::new(alloc, size.servers, size.items, size.queue, size.oldest)?;
-    run_lines(alloc, &mut world, lines)?;
+    let mut world = direct_world::World::new(
+        alloc,
+        size.servers,
+        size.items,
+        size.queue,
+        size.oldest,
+    )?;
+    run_direct(alloc, &mut world, lines)?;
     report_of(alloc, world.lines())
+}
+
+/// The report of the world of a set over bytes over a scenario's lines.
+#[tactic(auto, unfolding(crate::specs::Answer::log_over_bytes))]
+fn report_over_bytes(alloc: Global, lines: &[Line]) -> Result<Vec<u8>, OutOfMemory>
+    requires mode { (size_of lines.now).mode ≢ Direct }
+    requires servers { (1 ≤ (size_of lines.now).servers) × ((size_of lines.now).servers ≤ 8) }
+    ensures { IfOk result (λ text. text.items ≡ report_text (log_over_bytes lines.now)) }
+{
+    let size = size_of(lines);
+    let mut world = set_world::World::new(
+        alloc,
+        size.mode,
+        size.servers,
+        size.items,
+        size.queue,
+        size.oldest,
+    )?;
+    run_over_bytes(alloc, &mut world, lines)?;
+    report_of(alloc, world.lines())
+}
+
+/// The report of a scenario's lines.
+fn report_lines(alloc: Global, lines: &[Line]) -> Result<Vec<u8>, OutOfMemory>
+    requires queue { (1 ≤ (size_of lines.now).queue) × ((size_of lines.now).queue ≤ 1000) }
+    requires servers { (1 ≤ (size_of lines.now).servers) × ((size_of lines.now).servers ≤ 8) }
+    ensures { IfOk result (λ text. text.items ≡ report_text (client_log lines.now)) }
+{
+    match size_of(lines).mode {
+        SetMode::Direct => report_direct(alloc, lines),
+        SetMode::Hot | SetMode::Warm | SetMode::Cold => report_over_bytes(alloc, lines),
+    }
 }
 
 /// The report of a scenario's text, which may attach so many listeners, or its first faulty line.

@@ -11,7 +11,7 @@ plain_line-requires c =
     (placed_row c.args.rules c.args.self.now (row_of c.in-Plain.name) c.in-Plain.numbers (subst P c.in-Plain.is c.requires)).count
 
 pub returns-in-Set : goal.returns-in-Set
-returns-in-Set c = rw c.in-Set.is (c.set_line.ensures c.args.self.now)
+returns-in-Set c = rw c.in-Set.is (c.set_line.ensures c.args.rules c.args.self.now)
 
 pub returns-in-Items : goal.returns-in-Items
 returns-in-Items c = rw c.in-Items.is (c.items_line.ensures c.args.rules c.args.self.now)

@@ -1,6 +1,6 @@
 use Rattle.std.proofs.Common.{◌≡◌, drop}
 use Rattle.direct_world.specs.World.{after_all}
-use Rattle.uaset.proofs.replay.run_lines.Given as goal
+use Rattle.uaset.proofs.replay.run_direct.Given as goal
 
 -- the world after what is left is the world after all
 abbrev pub invariant-loop-line : goal.invariant-loop-line
