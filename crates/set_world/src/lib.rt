@@ -2,6 +2,7 @@
 #![tactic(auto)]
 
 mod making;
+mod pieces;
 mod set;
 mod slot;
 mod world;

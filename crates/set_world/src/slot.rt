@@ -1,18 +1,20 @@
 //! One server of the set: its lives, and its connection to the client.
 
 ghost use Rattle.std.specs.Prelude.{◌≡◌, ◌+◌, ◌≤◌, drop, is_some, length, max, OnOk, take};
+ghost use Rattle.client_cuts.specs.Resting.{IsAtRest};
 ghost use Rattle.set_rules.specs.Moves.{asked_by, cleared_by, is_left};
 ghost use Rattle.set_rules.specs.Slots.{accepted, collected, fed, fed_all, happens, new_slot, next_boot, parted, served, started, stopped};
 ghost use Rattle.ua_server.specs.Step.{stepped};
 ghost use Rattle.set_world.specs.Bytes.{Takes, nodes};
 
+use crate::pieces;
 use set_model::Change;
 use std::alloc::Global;
 use std::marker::Model;
 use std::mem;
 use ua_base::OutOfMemory;
 use ua_client::Client;
-use ua_server::{Piece, Server, ServerEvent};
+use ua_server::{Server, ServerEvent};
 
 /// A connection that stands, with the bytes that are in flight on it.
 #[derive(Drop)]
@@ -209,8 +211,28 @@ impl Slot {
         self.accept(alloc)
     }
 
-    /// All that is in flight to the server comes to it.
-    pub(crate) fn serve(&mut self, alloc: Global) -> Result<(), OutOfMemory>
+    /// What came on a connection is heard, in pieces of at most this size.
+    fn hear(
+        &mut self,
+        alloc: Global,
+        conn: u32,
+        bytes: Vec<u8>,
+        size: usize,
+    ) -> Result<(), OutOfMemory>
+        requires { 1 ≤ size }
+        ensures { OnOk result (self.new ≡ happens nodes (nodes.hears conn bytes.items) self.old) }
+    {
+        if let Some(life) = &mut self.life {
+            pieces::serve(alloc, life, conn, bytes, size)?;
+        } else {
+            return Ok(());
+        }
+        self.collect(alloc)
+    }
+
+    /// All that is in flight to the server comes to it, in pieces of at most this size.
+    pub(crate) fn serve(&mut self, alloc: Global, size: usize) -> Result<(), OutOfMemory>
+        requires { 1 ≤ size }
         ensures { OnOk result (self.new ≡ served nodes self.old) }
     {
         let Some(connection) = &mut self.connection else {
@@ -218,13 +240,7 @@ impl Slot {
         };
         let conn = connection.number;
         let there = mem::replace(&mut connection.there, Vec::new(alloc));
-        self.happen(
-            alloc,
-            &ServerEvent::Bytes {
-                conn,
-                bytes: Piece::new(there),
-            },
-        )
+        self.hear(alloc, conn, there, size)
     }
 
     /// The life ends, and with it its connection.
@@ -254,14 +270,17 @@ impl Slot {
     }
 
     /// Moves what the client put for this server to what is in flight, if a connection stands.
+    #[tactic(auto, using(client_cuts::proofs::Resting::out_rests))]
     pub(crate) fn gather(
         &mut self,
         alloc: Global,
         client: &mut Client,
         server: u8,
     ) -> Result<(), OutOfMemory>
+        requires { IsAtRest client.old.bytes }
         ensures slot { OnOk result (self.new ≡ asked_by nodes self.old.connection (nodes.asked server client.old.bytes) self.old) }
         ensures client { OnOk result (client.new.bytes ≡ cleared_by nodes self.old.connection server client.old.bytes) }
+        ensures rests { OnOk result (IsAtRest client.new.bytes) }
     {
         if let Some(connection) = &mut self.connection {
             client.take_out(alloc, server, &mut connection.there)?;

@@ -1,6 +1,8 @@
 ghost use Rattle.std.specs.Prelude.{◌≡◌, ◌≢◌, ◌<◌, ◌≤◌, IfOk, IfSome, OnErr, OnOk, false, length, true};
-ghost use Rattle.direct_world.specs.Server.{place_in};
 ghost use Rattle.ua_base.specs.declared.modes.SetMode.TheVariants.{Direct};
+ghost use Rattle.client_cuts.specs.Resting.{IsAtRest};
+ghost use Rattle.set_rules.specs.World.{after};
+ghost use Rattle.set_world.specs.Bytes.{beginning, nodes};
 ghost use Rattle.set_world.specs.State.{new_world, world_after};
 
 use crate::making::{Kind, client};
@@ -12,6 +14,9 @@ use std::marker::Model;
 use ua_base::{OutOfMemory, SetMode};
 use ua_server::ServerEvent;
 
+/// How many bytes come at once at most, where no line says it.
+const FIRST_PIECE: usize = 65_536;
+
 /// The world of a set of servers and a client that fails over between them.
 #[derive(Drop)]
 pub struct World {
@@ -21,6 +26,8 @@ pub struct World {
 }
 
 impl Model for World {
+    ghost use Rattle.std.specs.Prelude.{◌≡◌, false};
+    ghost use Rattle.client_cuts.specs.Resting.{IsAtRest};
     ghost use Rattle.set_world.specs.State.{WorldState};
 
     ghost Value = { WorldState };
@@ -32,6 +39,8 @@ impl Model for World {
       set = w.set;
       failed = w.failed;
     } };
+
+    ghost invariant = { λ w. w.failed ≡ false → IsAtRest w.set.client };
 }
 
 impl World {
@@ -74,69 +83,6 @@ impl World {
         self.set.client.lines()
     }
 
-    fn place_of(&self, server: u8) -> Option<usize>
-        ensures place { result ≡ place_in server (length self.now.set.slots) }
-        ensures within { IfSome result (λ place. place < length self.now.set.slots) }
-    {
-        let count = self.set.count();
-        if server >= 1 && usize::from(server) <= count {
-            Some(usize::from(server) - 1)
-        } else {
-            None
-        }
-    }
-
-    /// What the line does to the world.
-    fn step(&mut self, alloc: Global, line: &Line) -> Result<(), OutOfMemory>
-        ensures { OnOk result (self.new ≡ world_after line.now self.old) }
-    {
-        match *line {
-            Line::Change { change } => self.set.change(change),
-            Line::Tick { ms } => self.set.tick(alloc, ms),
-            Line::Pass { rounds } => self.set.pass(alloc, rounds),
-            Line::Feed { server, count } => match self.place_of(server) {
-                Some(place) => self.set.feed(alloc, place, count),
-                None => Ok(()),
-            },
-            Line::Level { server, level } => match self.place_of(server) {
-                Some(place) => {
-                    let event = ServerEvent::Level { level };
-                    self.set.happen(alloc, place, &event)
-                },
-                None => Ok(()),
-            },
-            Line::Stop { server } => match self.place_of(server) {
-                Some(place) => self.set.stop(alloc, place),
-                None => Ok(()),
-            },
-            Line::Start { server } => match self.place_of(server) {
-                Some(place) => self.set.start(alloc, self.kind, place),
-                None => Ok(()),
-            },
-            Line::Cut { server } => match self.place_of(server) {
-                Some(place) => self.set.lose(alloc, place),
-                None => Ok(()),
-            },
-            Line::Half { server } => match self.place_of(server) {
-                Some(place) => self.set.halve(alloc, place),
-                None => Ok(()),
-            },
-            Line::Hold { server } => {
-                if let Some(place) = self.place_of(server) {
-                    self.set.hold(place, true);
-                }
-                Ok(())
-            }
-            Line::Free { server } => {
-                if let Some(place) = self.place_of(server) {
-                    self.set.hold(place, false);
-                }
-                Ok(())
-            }
-            _ => Ok(()),
-        }
-    }
-
     /// Takes the next line of a scenario. A line that names a server that isn't there leaves the world as it is, and so do
     /// those that say nothing of the nodes of a set, as its first two.
     ///
@@ -151,7 +97,7 @@ impl World {
         if self.failed {
             return Err(OutOfMemory);
         }
-        let result = self.step(alloc, line);
+        let result = step(alloc, self.kind, &mut self.set, line);
         if result.is_err() {
             self.failed = true;
         }
@@ -159,12 +105,71 @@ impl World {
     }
 }
 
+/// What the line does to a set.
+fn step(alloc: Global, kind: Kind, set: &mut Set, line: &Line) -> Result<(), OutOfMemory>
+    requires { IsAtRest set.old.client }
+    ensures set { OnOk result (set.new
+        ≡ after nodes (beginning kind.mode kind.servers kind.items) kind.items line.now set.old) }
+    ensures rests { OnOk result (IsAtRest set.new.client) }
+{
+    match *line {
+        Line::Change { change } => set.change(change),
+        Line::Tick { ms } => set.tick(alloc, ms),
+        Line::Pass { rounds } => set.pass(alloc, rounds),
+        Line::Feed { server, count } => match set.place_of(server) {
+            Some(place) => set.feed(alloc, place, count),
+            None => Ok(()),
+        },
+        Line::Level { server, level } => match set.place_of(server) {
+            Some(place) => {
+                let event = ServerEvent::Level { level };
+                set.happen(alloc, place, &event)
+            },
+            None => Ok(()),
+        },
+        Line::Stop { server } => match set.place_of(server) {
+            Some(place) => set.stop(alloc, place),
+            None => Ok(()),
+        },
+        Line::Start { server } => match set.place_of(server) {
+            Some(place) => set.start(alloc, kind, place),
+            None => Ok(()),
+        },
+        Line::Cut { server } => match set.place_of(server) {
+            Some(place) => set.lose(alloc, place),
+            None => Ok(()),
+        },
+        Line::Half { server } => match set.place_of(server) {
+            Some(place) => set.halve(alloc, place),
+            None => Ok(()),
+        },
+        Line::Hold { server } => {
+            if let Some(place) = set.place_of(server) {
+                set.hold(place, true);
+            }
+            Ok(())
+        }
+        Line::Free { server } => {
+            if let Some(place) = set.place_of(server) {
+                set.hold(place, false);
+            }
+            Ok(())
+        }
+        Line::Piece { bytes } => {
+            set.cut(bytes);
+            Ok(())
+        }
+        _ => Ok(()),
+    }
+}
+
 /// A set that begins.
 fn new_set(alloc: Global, kind: Kind, queue: u32, oldest: bool) -> Result<Set, OutOfMemory>
     requires mode { kind.mode ≢ Direct }
     requires servers { (1 ≤ kind.servers) × (kind.servers ≤ 8) }
-    ensures { IfOk result (λ set. set
+    ensures set { IfOk result (λ set. set
         ≡ (new_world kind.mode kind.servers kind.items queue oldest).set) }
+    ensures rests { IfOk result (λ set. IsAtRest set.client) }
 {
     let client = client(alloc, kind, queue, oldest)?;
     let slots = new_slots(alloc, kind)?;
@@ -172,5 +177,6 @@ fn new_set(alloc: Global, kind: Kind, queue: u32, oldest: bool) -> Result<Set, O
         source: SourceLog::new(alloc),
         slots,
         client,
+        piece: FIRST_PIECE,
     })
 }
