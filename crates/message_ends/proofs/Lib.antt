@@ -1,0 +1,4 @@
+pub mod Lookups
+pub mod Ordering
+pub mod Hearing
+pub mod Coming
