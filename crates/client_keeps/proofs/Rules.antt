@@ -1,5 +1,5 @@
 -- Each rule leaves a client that fits, and lets it say what keeps the limits.
-use Rattle.std.proofs.Common.{◌≡◌, ℕ, zero, suc, ◌+◌, ◌-◌, ◌<◌, ◌≤◌, ◌^◌, ◌&&◌, List, [], ◌∷◌, ◌++◌, map, length, replicate, min, Bool, true, false, Option, Some, None, IfSome, if◌then◌else◌, slice_index_or, slice_set, codes, refl, sym, ◌∙◌, ap, subst, arith}
+use Rattle.std.proofs.Common.{◌≡◌, ℕ, zero, suc, ◌+◌, ◌-◌, ◌<◌, ◌≤◌, ◌^◌, List, [], ◌∷◌, ◌++◌, map, length, replicate, Bool, true, false, Option, Some, None, if◌then◌else◌, slice_index_or, slice_set, codes, refl, sym, subst, arith}
 use Rattle.std.specs.List.{AllByRecursion}
 use Rattle.std.specs.Fmt.{decimal}
 use Rattle.std.proofs.lemmas.Fmt.{length-decimal-le}
@@ -20,12 +20,12 @@ use Rattle.link_keeps.specs.Fitting.{Fits, FitsLink, KeepsSaid}
 use Rattle.link_keeps.proofs.Rules as links
 use Rattle.client_rules.specs.declared.config.ClientConfig.{ClientConfig}
 use Rattle.client_rules.specs.State.{ClientState, idle_client, link_config, link_of, servers_of, with_link}
-use Rattle.client_rules.specs.Acts.{ClientAct, Happening, Happened, Tells, Says, Switches, Opens, Refuses, Hears, Closes, Ticks}
+use Rattle.client_rules.specs.Acts.{Happening, Tells, Says, Opens, Refuses, Hears, Closes, Ticks}
 use Rattle.client_rules.specs.Doing.{ClientDid, and_then, each_server, nothing}
-use Rattle.client_rules.specs.Links.{all_told, fell, falls, linked, linked_by, moved, told, with_level_told}
+use Rattle.client_rules.specs.Links.{all_told, fell, falls, linked, linked_by, moved, told}
 use Rattle.client_rules.specs.Settling.{are_fewer, chosen, modes_told, ready_of, round, settled, settled_within, switched, told_mode, with_choice}
-use Rattle.client_rules.specs.Dialling.{are_idle, dialled, dialled_by, dials_among, dials_at, dials_if, dials_one, first_to_dial, has_numbers}
-use Rattle.client_rules.specs.Step.{Moment, Goes, Ends, after, after_all, at_moment, counted, dial_text, endpoint, happening, happens, is_known, new_client, opens, ticks, url_text}
+use Rattle.client_rules.specs.Dialling.{are_idle, dialled, dialled_by, dials_among, dials_at, dials_if, first_to_dial, has_numbers}
+use Rattle.client_rules.specs.Step.{Moment, Goes, Ends, after, after_all, at_moment, counted, dial_text, endpoint, happening, happens, is_known, new_client, url_text}
 use Rattle.client_keeps.specs.Fitting.{FitsClient, FitsConfig, FitsHappening, FitsMoment, FitsUrl, KeepsAct}
 
 -- ---- lists
@@ -82,7 +82,7 @@ each_fits rule (suc count) c fits each =
 link_fits : (config : ClientConfig) → FitsConfig config → FitsLink (new_link (link_config config))
 link_fits config fits = links.new_fits (link_config config) (record { items = fits.items; queue = fits.queue; start = fits.start })
 
-of_server : (server : ℕ) (c : ClientState) → FitsClient c → FitsLink (link_of server c)
+pub of_server : (server : ℕ) (c : ClientState) → FitsClient c → FitsLink (link_of server c)
 of_server server c fits =
     all_at FitsLink c.links (server - 1) (new_link (link_config c.config)) fits.links (link_fits c.config fits.config)
 
@@ -120,7 +120,7 @@ fell_fits : (server : ℕ) (b : Bool) (c : ClientState) → FitsClient c → Fit
 fell_fits server true c fits = record { config = fits.config; links = fits.links }
 fell_fits server false c fits = fits
 
-with_link_fits : (server : ℕ) (l : LinkState) (c : ClientState) → FitsLink l → FitsClient c → FitsClient (with_link server l c)
+pub with_link_fits : (server : ℕ) (l : LinkState) (c : ClientState) → FitsLink l → FitsClient c → FitsClient (with_link server l c)
 with_link_fits server l c known fits = record { config = fits.config; links = all_set FitsLink c.links (server - 1) l fits.links known }
 
 tells_keep : (server : ℕ) (notices : List Notice) → AllByRecursion KeepsAct (map (Tells server) notices)
@@ -201,7 +201,7 @@ dialled_by_fits Cold c fits =
     client_if (are_idle (length c.links) c) (dials_if (first_to_dial (length c.links) c.cursor c) c) c
     (one_fits (first_to_dial (length c.links) c.cursor c) c fits) fits
 
-dialled_fits : (c : ClientState) → FitsClient c → FitsClient (dialled c)
+pub dialled_fits : (c : ClientState) → FitsClient c → FitsClient (dialled c)
 unfolding dialled
 dialled_fits c fits =
     client_if (has_numbers c) (dialled_by c.config.mode c) c (dialled_by_fits c.config.mode c fits) fits
@@ -250,6 +250,9 @@ after_fits h c kept fits =
     (fits_then did settled (fits_then (happening h c) (happens h) (happening_fits h c fits) (happens_fits h c kept))
     (λ now. settled_fits (length did.client.links + 1) (ready_of did.client) did.client now)) (fits_nothing c fits)
 
+pub after_client : (h : Happening) (c : ClientState) → FitsHappening h → FitsClient c → FitsClient (after h c).client
+after_client h c kept fits = (after_fits h c kept fits).client
+
 moment_fits : (m : Moment) (c : ClientState) → FitsMoment m → FitsClient c → FitsDid (at_moment m c)
 moment_fits (Goes h) c kept fits = after_fits h c kept fits
 moment_fits Ends c kept fits = fits_nothing (dialled c) (dialled_fits c fits)
@@ -260,7 +263,7 @@ all_fit [] c kept fits = fits_nothing c fits
 all_fit (m ∷ moments) c kept fits =
     fits_then (at_moment m c) (after_all moments) (moment_fits m c kept.0 fits) (all_fit moments (at_moment m c).client kept.1)
 
-new_fits : (config : ClientConfig) → FitsConfig config → FitsClient (new_client config)
+pub new_fits : (config : ClientConfig) → FitsConfig config → FitsClient (new_client config)
 new_fits config known =
     dialled_fits (idle_client config)
     (record { config = known; links = all_same FitsLink (servers_of config) (new_link (link_config config)) (link_fits config known) })

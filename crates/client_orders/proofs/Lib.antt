@@ -1,0 +1,10 @@
+pub mod Saying
+pub mod Answering
+pub mod Ordering
+pub mod Using
+pub mod Lists
+pub mod Clients
+pub mod Lengths
+pub mod Long
+pub mod Coming
+pub mod Whole
