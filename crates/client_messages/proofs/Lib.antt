@@ -1,0 +1,10 @@
+pub mod Dialling
+pub mod Shutting
+pub mod Ending
+pub mod Beginning
+pub mod Awaiting
+pub mod Renewing
+pub mod Events
+pub mod Hearing
+pub mod Taking
+pub mod Ordering
