@@ -1,0 +1,12 @@
+pub mod Flights
+pub mod Facts
+pub mod Slots
+pub mod Sets
+pub mod Moves
+pub mod Turns
+pub mod Lines
+pub mod ServerFacts
+pub mod ClientFacts
+pub mod Beginning
+pub mod Whole
+pub mod Pieces

@@ -1,0 +1,4 @@
+pub mod Nodes
+pub mod World
+pub mod Fitting
+pub mod Showing
