@@ -1,5 +1,5 @@
 -- The log of a scenario's lines can be trusted.
-use Rattle.std.proofs.Common.{◌≡◌, ℕ, ◌≤◌, List, Ok, Err, refl, sym, ap, subst, arith}
+use Rattle.std.proofs.Common.{◌≡◌, ℕ, ◌≤◌, List, Ok, Err, refl, sym, ap, subst, ◌∙◌, arith}
 use Rattle.std.specs.Prelude.{Result, All}
 use Rattle.ua_base.specs.declared.modes.SetMode.{SetMode}
 use Rattle.ua_base.specs.declared.modes.SetMode.TheVariants.{Direct}
@@ -21,6 +21,7 @@ use Rattle.direct_world.proofs.Plainness.{world_plain}
 use Rattle.uaset.specs.Answer.{answer_of, answer_by, client_log, log_in, past_of, size_of, world_of}
 use Rattle.uaset.specs.declared.words.Command.TheVariants as command
 use Rattle.uaset.specs.Commands.{IsTrustworthy, Means}
+use Rattle.uaset.proofs.Messages.{OnlyStanding, ShowsBytes, same_log}
 
 -- a scenario's queues have from 2 to 1000 places
 pub queue_fits : (rules : Rules) (bytes : List ℕ) (lines : List Line) → scenario_of rules bytes ≡ Ok lines
@@ -64,11 +65,16 @@ trustworthy rules bytes lines h direct =
 ok_is : (report text : List ℕ) → ◌≡◌ {A = Result (List ℕ) ScenarioFault} (Ok report) (Ok text) → text ≡ report
 ok_is report text e = cc
 
-promised : (pool : ℕ) (bytes text : List ℕ) (scenario : Result (List Line) ScenarioFault) → scenario_of (rules_of_replay pool) bytes ≡ scenario → answer_by scenario ≡ Ok text
-    → Means pool command.Replay bytes text
-promised pool bytes text (Ok lines) is h = (lines, is, ok_is (report_text (client_log lines)) text h, trustworthy (rules_of_replay pool) bytes lines is)
-promised pool bytes text (Err fault) is h = absurd cc
+promised : OnlyStanding → ShowsBytes → (pool : ℕ) (bytes text : List ℕ) (scenario : Result (List Line) ScenarioFault) → scenario_of (rules_of_replay pool) bytes ≡ scenario
+    → answer_by scenario ≡ Ok text → Means pool command.Replay bytes text
+promised standing shows pool bytes text (Ok lines) is h = (
+  lines,
+  is,
+  ok_is (report_text (client_log lines)) text h ∙ ap report_text (same_log standing shows (rules_of_replay pool) bytes lines is),
+  trustworthy (rules_of_replay pool) bytes lines is,
+)
+promised standing shows pool bytes text (Err fault) is h = absurd cc
 
 -- a report is that of a scenario whose log can be trusted, where its set is direct
-pub report_promised : (pool : ℕ) (bytes text : List ℕ) → answer_of pool bytes ≡ Ok text → Means pool command.Replay bytes text
-report_promised pool bytes text h = promised pool bytes text (scenario_of (rules_of_replay pool) bytes) refl h
+pub report_promised : OnlyStanding → ShowsBytes → (pool : ℕ) (bytes text : List ℕ) → answer_of pool bytes ≡ Ok text → Means pool command.Replay bytes text
+report_promised standing shows pool bytes text h = promised standing shows pool bytes text (scenario_of (rules_of_replay pool) bytes) refl h

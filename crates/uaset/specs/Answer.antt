@@ -15,6 +15,7 @@ use Rattle.scenario.specs.Scenario.{scenario_of}
 use Rattle.direct_world.specs.State.{WorldState}
 use Rattle.direct_world.specs.World as world
 use Rattle.set_world.specs.State as bytes
+use Rattle.set_messages.specs.World.{messages_after}
 use Rattle.direct_world.specs.History.{history_of}
 
 -- the set's mode, how wide it is, and whether a full queue of it discards its oldest entry or its newest
@@ -71,6 +72,23 @@ log_in Cold lines = log_over_bytes lines
 -- the client's log at the end of a scenario's lines
 abbrev pub client_log : List Line → List LogLine
 client_log lines = log_in (size_of lines).mode lines
+
+-- ---- the same over whole messages, with no bytes, no pieces and no numbers of chunks
+
+-- the client's log at the end of a scenario's lines, where the set is over messages
+unfoldable pub log_over_messages : List Line → List LogLine
+log_over_messages lines = let size = size_of lines in
+    (messages_after size.mode size.servers size.items size.queue size.oldest lines).client.hub.log.lines
+
+abbrev pub defined_in : SetMode → List Line → List LogLine
+defined_in Direct lines = (world_of lines).log.lines
+defined_in Hot lines = log_over_messages lines
+defined_in Warm lines = log_over_messages lines
+defined_in Cold lines = log_over_messages lines
+
+-- what the client's log is by definition: that of the world of a direct set, or of a set over messages
+abbrev pub defined_log : List Line → List LogLine
+defined_log lines = defined_in (size_of lines).mode lines
 
 -- what happened to the log of a direct set
 abbrev pub past_of : List Line → List Act

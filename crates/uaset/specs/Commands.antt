@@ -23,7 +23,7 @@ use Rattle.uaset.specs.declared.words.Command.{Command}
 use Rattle.uaset.specs.declared.words.Command.TheVariants as command
 use Rattle.uaset.specs.declared.answer.Refusal.{Refusal}
 use Rattle.uaset.specs.declared.answer.Refusal.TheVariants as refusal
-use Rattle.uaset.specs.Answer.{answer_of, client_log, past_of, size_of}
+use Rattle.uaset.specs.Answer.{answer_of, client_log, defined_log, past_of, size_of}
 
 -- ---- what is read
 
@@ -70,12 +70,13 @@ pub record IsTrustworthy (lines : List Line) : Type 0 where
   pub caused : Caused (past_of lines) (client_log lines)
   pub plain : All IsPlain (client_log lines)
 
--- the text is the report of the client's log of a scenario, which can be trusted where the set is direct: of sets over
--- bytes no more is said so far than their exact text; or what the one value holds that the whole input spells; or a line
+-- the text is the report of the client's log of a scenario, as the world is defined, in which nothing but whole messages is
+-- in flight; where the set is direct the log can be trusted, and of other sets no more is said so far than their exact
+-- text; or what the one value holds that the whole input spells; or a line
 -- for each of the frames that the input begins with, as many as there are, and how many bytes follow
 abbrev pub Means : ℕ → Command → List ℕ → List ℕ → Type 0
 Means pool command.Replay bytes text =
-    (lines : List Line) × (scenario_of (rules_of_replay pool) bytes ≡ Ok lines) × (text ≡ report_text (client_log lines))
+    (lines : List Line) × (scenario_of (rules_of_replay pool) bytes ≡ Ok lines) × (text ≡ report_text (defined_log lines))
     × ((size_of lines).mode ≡ Direct → IsTrustworthy lines)
 Means pool command.ShowValue bytes text = (d : Stamped Variant) × data_value 101 d bytes × (text ≡ value_text d)
 Means pool command.ShowStream bytes text =

@@ -29,6 +29,9 @@ fn replayed(alloc: Global, bytes: &[u8], pool: usize) -> Result<Vec<u8>, Refusal
     ensures exact { Answered (λ text. text.items) result (replayed (answer_of pool bytes.now)) }
     ensures means { IfOk result (λ text. Means pool Command.Replay bytes.now text.items) }
 {
+    // The text that is made over bytes is that of the definition, which has whole messages alone.
+    scenario::scenarios_are_read();
+    set_messages::messages_show_bytes();
     match replay(alloc, bytes, pool) {
         Ok(text) => Ok(text),
         Err(ReadError::Fault(fault)) => Err(Refusal::Scenario {
