@@ -6,6 +6,7 @@
 mod laws;
 
 pub use laws::{
-    a_connection_stands, connections_stand, orders_are_lawful, orders_are_lawful_on_each_connection,
-    what_a_link_says_is_lawful, what_is_put_fits_where_it_is_heard,
+    a_connection_stands, connections_stand, orders_are_lawful,
+    orders_are_lawful_on_each_connection, what_a_link_says_is_lawful,
+    what_is_put_fits_where_it_is_heard,
 };
