@@ -1,3 +1,4 @@
 pub mod Texts
 pub mod Bytes
 pub mod State
+pub mod Flight

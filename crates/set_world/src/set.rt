@@ -1,6 +1,6 @@
 //! The set: its source, its servers and its client, and what happens between them.
 
-ghost use Rattle.std.specs.Prelude.{◌≡◌, ◌++◌, ◌<◌, ◌≤◌, ◌+◌, IfOk, IfSome, length, OnOk};
+ghost use Rattle.std.specs.Prelude.{[], ◌≡◌, ◌++◌, ◌<◌, ◌≤◌, ◌+◌, IfOk, IfSome, length, OnOk};
 ghost use Rattle.client_cuts.specs.Resting.{IsAtRest};
 ghost use Rattle.direct_world.specs.Server.{place_in};
 ghost use Rattle.direct_world.specs.World.{appended};
@@ -10,6 +10,7 @@ ghost use Rattle.set_rules.specs.Slots.{accepted, current_of, currents, fed, hap
 ghost use Rattle.set_rules.specs.World as world;
 ghost use Rattle.ua_server.specs.Step as serving;
 ghost use Rattle.ua_client.specs.Step.{stepped};
+ghost use Rattle.set_world.specs.Flight.{flight_of};
 ghost use Rattle.set_world.specs.State.{first_slots};
 ghost use Rattle.set_world.specs.Bytes.{beginning, nodes};
 
@@ -98,6 +99,16 @@ impl Set {
             Some(usize::from(server) - 1)
         } else {
             None
+        }
+    }
+
+    /// The bytes in flight to the server, or from it.
+    pub(crate) fn flight(&self, server: u8, to_server: bool) -> &[u8]
+        ensures { result.now ≡ flight_of [] server to_server self.now }
+    {
+        match self.place_of(server) {
+            Some(place) => self.slots[place].flight(to_server),
+            None => &[],
         }
     }
 

@@ -1,11 +1,12 @@
 //! One server of the set: its lives, and its connection to the client.
 
-ghost use Rattle.std.specs.Prelude.{◌≡◌, ◌+◌, ◌≤◌, drop, is_some, length, max, OnOk, take};
+ghost use Rattle.std.specs.Prelude.{[], ◌≡◌, ◌+◌, ◌≤◌, drop, is_some, length, max, OnOk, take};
 ghost use Rattle.client_cuts.specs.Resting.{IsAtRest};
 ghost use Rattle.set_rules.specs.Moves.{asked_by, cleared_by, is_left};
 ghost use Rattle.set_rules.specs.Slots.{accepted, collected, fed, fed_all, happens, new_slot, next_boot, parted, served, started, stopped};
 ghost use Rattle.ua_server.specs.Step.{stepped};
 ghost use Rattle.set_world.specs.Bytes.{Takes, nodes};
+ghost use Rattle.set_world.specs.Flight.{flight_in};
 
 use crate::pieces;
 use set_model::Change;
@@ -75,6 +76,22 @@ fn next_changes(changes: &[Change], place: usize, count: usize) -> &[Change]
 }
 
 impl Slot {
+    /// The bytes in flight on the connection to the server, or from it.
+    pub(crate) fn flight(&self, to_server: bool) -> &[u8]
+        ensures { result.now ≡ flight_in [] self.now.connection to_server }
+    {
+        match &self.connection {
+            Some(connection) => {
+                if to_server {
+                    &connection.there
+                } else {
+                    &connection.back
+                }
+            }
+            None => &[],
+        }
+    }
+
     /// Moves what the life put for the connection that stands to what is in flight.
     fn collect(&mut self, alloc: Global) -> Result<(), OutOfMemory>
         ensures { OnOk result (self.new ≡ collected nodes self.old) }

@@ -1,8 +1,9 @@
-ghost use Rattle.std.specs.Prelude.{◌≡◌, ◌≢◌, ◌<◌, ◌≤◌, IfOk, IfSome, OnErr, OnOk, false, length, true};
+ghost use Rattle.std.specs.Prelude.{[], ◌≡◌, ◌≢◌, ◌<◌, ◌≤◌, IfOk, IfSome, OnErr, OnOk, false, length, true};
 ghost use Rattle.ua_base.specs.declared.modes.SetMode.TheVariants.{Direct};
 ghost use Rattle.client_cuts.specs.Resting.{IsAtRest};
 ghost use Rattle.set_rules.specs.World.{after};
 ghost use Rattle.set_world.specs.Bytes.{beginning, nodes};
+ghost use Rattle.set_world.specs.Flight.{flight_of};
 ghost use Rattle.set_world.specs.State.{new_world, world_after};
 
 use crate::making::{Kind, client};
@@ -81,6 +82,14 @@ impl World {
         ensures { result.now ≡ self.now.set.client.hub.log.lines }
     {
         self.set.client.lines()
+    }
+
+    /// The bytes in flight to the server of this number, or, with `to_server` false, from it: those that one node put and the
+    /// other hasn't taken. They are none where no connection stands, or there is no such server.
+    pub fn flight(&self, server: u8, to_server: bool) -> &[u8]
+        ensures { result.now ≡ flight_of [] server to_server self.now.set }
+    {
+        self.set.flight(server, to_server)
     }
 
     /// Takes the next line of a scenario. A line that names a server that isn't there leaves the world as it is, and so do
