@@ -69,7 +69,7 @@ within_by true number count place is found = within number count place is (some_
     within number count place is same = grind (arith, nat_tests)
 within_by false number count place is found = absurd cc
 
-place_within : (number count place : ℕ) → place_in number count ≡ Some place → place + 1 ≤ count
+pub place_within : (number count place : ℕ) → place_in number count ≡ Some place → place + 1 ≤ count
 place_within number count place found = within_by (nat_le 1 number && nat_le number count) number count place refl found
 
 module _ (Shows : (ℕ → ℕ) → client.BytesState → Client → Type 0) (sl : ServerLaws) (cl : ClientLaws Shows) where

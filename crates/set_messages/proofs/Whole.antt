@@ -1,5 +1,5 @@
 -- A whole set, from its beginning on: over messages it shows what it is over bytes.
-use Rattle.std.proofs.Common.{◌≡◌, ℕ, ◌+◌, ◌^◌, ◌≤◌, ◌<◌, ◌&&◌, nat_le, Bool, true, List, [], Option, Some, None, refl, sym, ap, subst, ◌∙◌, arith}
+use Rattle.std.proofs.Common.{length, true, false, ◌≡◌, ℕ, ◌+◌, ◌^◌, ◌≤◌, ◌<◌, ◌&&◌, nat_le, Bool, true, List, [], Option, Some, None, refl, sym, ap, subst, ◌∙◌, arith}
 use Rattle.std.proofs.lemmas.Bool.Decides.{nat_tests}
 use Rattle.std.proofs.lemmas.List.{length-replicate}
 use Rattle.std.specs.List.{AllByRecursion}
@@ -19,7 +19,9 @@ use Rattle.set_rules.specs.Slots.{currents, new_slot}
 use Rattle.set_rules.specs.Moves.{slot_at}
 use Rattle.set_rules.specs.World.{after_all, new_set}
 use Rattle.set_world.proofs.Counting.{urls_count}
+use Rattle.direct_world.specs.Server.{place_in}
 use Rattle.set_world.specs.Bytes as bytes
+use Rattle.set_world.specs.Flight.{flight_at, flight_in, flight_of}
 use Rattle.set_world.specs.State.{ByteSet}
 use Rattle.set_world.specs.Texts.{client_config, server_config}
 use Rattle.ua_client.specs.State as client
@@ -32,7 +34,7 @@ use Rattle.set_messages.proofs.Flights.{Flight}
 use Rattle.set_messages.proofs.Facts.{LinkExpects, LinkHolds, ServerLaws}
 use Rattle.set_messages.proofs.Slots.{MessageSlot, Shown, SlotShows, new_shows}
 use Rattle.set_messages.proofs.Sets.{IsShown, ShowsAt}
-use Rattle.set_messages.proofs.Lines.{lines_show}
+use Rattle.set_messages.proofs.Lines.{lines_show, place_within}
 use Rattle.set_messages.proofs.Beginning.{client_fits, currents_fit, server_fits, slot_new, slots_long}
 use Rattle.set_messages.proofs.ClientFacts.{client_laws}
 
@@ -150,3 +152,28 @@ seen count b m x = record {
   slots = λ place here. slot_seen (LinkExpects (place + 1) b.client) (LinkHolds (place + 1) b.client) (x.firsts (place + 1)) (slot_at place b) (slot_at place m)
       (x.set.each place (subst (λ n. place + 1 ≤ n) x.set.slots here));
 }
+
+-- ---- the bytes in flight
+
+nothing_flies : AreBytesOf [] []
+nothing_flies = record { first = 1; next = 1; sent = []; wires_are = refl; bytes_are = refl; chain = refl }
+
+flight_seen : (to_server : Bool) (c : Option (Connection (List ℕ))) (d : Option (Connection (List WireState))) → ShowsConnection c d
+    → AreBytesOf (flight_in [] c to_server) (flight_in [] d to_server)
+flight_seen to_server None None s = nothing_flies
+flight_seen to_server None (Some d) s = absurd s
+flight_seen to_server (Some c) None s = absurd s
+flight_seen true (Some c) (Some d) s = s.there
+flight_seen false (Some c) (Some d) s = s.back
+
+wire_by : (found : Option ℕ) (number : ℕ) (to_server : Bool) (b : ByteSet) (m : MessageSet) → place_in number (length b.slots) ≡ found → SetIsShown b m
+    → AreBytesOf (flight_at [] found to_server b) (flight_at [] found to_server m)
+wire_by None number to_server b m is x = nothing_flies
+wire_by (Some place) number to_server b m is x =
+    flight_seen to_server (slot_at place b).connection (slot_at place m).connection (x.slots place (place_within number (length b.slots) place is)).connection
+
+pub wire : (number : ℕ) (to_server : Bool) (b : ByteSet) (m : MessageSet) → SetIsShown b m
+    → AreBytesOf (flight_of [] number to_server b) (flight_of [] number to_server m)
+wire number to_server b m x =
+    subst (λ n. AreBytesOf (flight_of [] number to_server b) (flight_at [] (place_in number n) to_server m)) x.count
+    (wire_by (place_in number (length b.slots)) number to_server b m refl x)
