@@ -1,0 +1,7 @@
+//! What the ends of a connection put and took, over a whole scenario: what one end put is what the other took, and what is
+//! in flight. The law is the contract of a function that does nothing; nothing here runs.
+#![tactic(auto)]
+
+mod laws;
+
+pub use laws::what_is_put_is_taken_or_in_flight;
