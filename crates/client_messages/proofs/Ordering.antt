@@ -3,31 +3,23 @@ use Rattle.std.proofs.Common.{◌≡◌, ℕ, List, [], ◌∷◌, refl, subst}
 use Rattle.ua_chunks.specs.Sending.{Sending, limit_of}
 use Rattle.ua_channel.specs.declared.wire.Order.{Order}
 use Rattle.ua_channel.specs.declared.wire.Order.TheVariants as order
-use Rattle.ua_channel.specs.Arriving.{after_order}
+use Rattle.ua_channel.specs.Arriving.{after_orders}
 use Rattle.ua_channel.specs.Sharing.{own}
-use Rattle.server_keeps.specs.Lawful as server
 use Rattle.client_rules.specs.State.{ClientState}
 use Rattle.client_rules.specs.Acts.{Happening}
 use Rattle.client_rules.specs.Step.{after}
 use Rattle.client_keeps.specs.Fitting.{FitsClient, FitsHappening}
 use Rattle.client_orders.specs.Coming.{PutFits, PutsFit}
 use Rattle.client_orders.proofs.Whole.{client_in_use, client_puts}
-use Rattle.message_ends.specs.Showing.{OrderBrings, OrdersBring, after_orders}
+use Rattle.message_ends.specs.Showing.{OrderBrings, OrdersBring}
 use Rattle.message_ends.proofs.Ordering.{IsLawfulFor}
 use Rattle.client_messages.specs.Showing.{Brings, Limits}
 use Rattle.client_messages.proofs.Events.{Orders}
 
-same_after : (orders : List Order) (s : Sending) → server.after_orders orders s ≡ after_orders orders s
-same_after [] s = refl
-same_after (o ∷ orders) s = same_after orders (after_order o s)
-
 is_lawful : (h : Happening) (c : ClientState) → FitsHappening h → FitsClient c
     → (number : ℕ) → IsLawfulFor Limits number (after h c).orders c (after h c).client
 is_lawful h c kept fits number s knows =
-    let did = client_in_use number s h c fits kept knows in (
-      did.lawful,
-      subst (λ (x : Sending). Limits number (limit_of x) (after h c).client) (same_after (own number (after h c).orders) s) did.limit,
-    )
+    let did = client_in_use number s h c fits kept knows in (did.lawful, did.limit)
 
 one_brings : (o : Order) → PutFits o → OrderBrings Brings o
 one_brings (order.Put w) fits = fits

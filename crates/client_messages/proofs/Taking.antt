@@ -7,16 +7,15 @@ use Rattle.link_rules.specs.declared.phase.Phase.TheVariants as phase
 use Rattle.link_rules.specs.Closing.{stands_in}
 use Rattle.link_rules.specs.State.{LinkState, new_link}
 use Rattle.link_rules.specs.Step.{taken_in, wish_taken}
-use Rattle.link_keeps.specs.Fitting.{FitsLink, FitsPhase}
 use Rattle.client_rules.specs.State.{ClientState, is_server, link_config, link_of, with_link}
 use Rattle.client_keeps.specs.Fitting.{FitsClient}
-use Rattle.client_keeps.proofs.Rules.{of_server, with_link_fits}
+use Rattle.client_keeps.proofs.Rules.{wish_fits}
 use Rattle.ua_client.specs.State.{BytesState, out_of as bytes_out_of, without_out, without_wish}
 use Rattle.client_cuts.proofs.Wishing.{wish_count}
 use Rattle.message_ends.specs.Ends.{MessageEnd, out_by}
 use Rattle.message_ends.specs.Talk.{out_of, without_out as messages_without_out}
-use Rattle.message_ends.specs.Showing.{AllBring, ExpectsIn, LimitIn, ShowsEnd}
-use Rattle.message_ends.proofs.Ordering.{expects_emptied, firsts_with, next_in, taken}
+use Rattle.message_ends.specs.Showing.{AllBring, ExpectsIn, LimitIn, ShowsEnd, firsts_with, next_in}
+use Rattle.message_ends.proofs.Ordering.{expects_emptied, taken}
 use Rattle.client_messages.specs.Messages as messages
 use Rattle.client_messages.specs.Messages.{MessagesState}
 use Rattle.client_messages.specs.Showing.{Brings, KnowsLimit, Limits, Puts, Stands, next_of, taken_firsts}
@@ -52,10 +51,6 @@ out_expects server number next r x = expects_emptied server number next r.channe
 
 -- ---- wishes
 
-taken_phase : (p : Phase) → FitsPhase p → FitsPhase (taken_in p)
-taken_phase (phase.Dialing taken) fits = tt
-taken_phase other fits = fits
-
 stands_taken : (p : Phase) → stands_in (taken_in p) ≡ stands_in p
 stands_taken (phase.Dialing taken) = refl
 stands_taken other = refl
@@ -63,38 +58,9 @@ stands_taken other = refl
 abbrev taken_by : Bool → LinkState → LinkState
 taken_by b l = cond b (record l { closes = false }) (record l { phase = taken_in l.phase })
 
-link_taken : (b : Bool) (l : LinkState) → FitsLink l → FitsLink (taken_by b l)
-link_taken true l fits = record {
-  config = fits.config;
-  phase = fits.phase;
-  url = fits.url;
-  session = fits.session;
-  conversation = fits.conversation;
-  remembered = fits.remembered;
-  monitored = fits.monitored;
-  monitored_count = fits.monitored_count;
-  acks = fits.acks;
-}
-link_taken false l fits = record {
-  config = fits.config;
-  phase = taken_phase l.phase fits.phase;
-  url = fits.url;
-  session = fits.session;
-  conversation = fits.conversation;
-  remembered = fits.remembered;
-  monitored = fits.monitored;
-  monitored_count = fits.monitored_count;
-  acks = fits.acks;
-}
-
 knows_taken : (b : Bool) (limit : ℕ) (l : LinkState) → KnowsLimit l limit → KnowsLimit (taken_by b l) limit
 knows_taken true limit l knows = knows
 knows_taken false limit l knows = λ stands. knows (sym (stands_taken l.phase) ∙ stands)
-
-wish_fits : (b : Bool) (server : ℕ) (c : ClientState) → FitsClient c → FitsClient (cond b (with_link server (wish_taken (link_of server c)) c) c)
-wish_fits true server c fits =
-    with_link_fits server (wish_taken (link_of server c)) c (link_taken (link_of server c).closes (link_of server c) (of_server server c fits)) fits
-wish_fits false server c fits = fits
 
 wish_knows : (b : Bool) (limit number server : ℕ) (c : ClientState) → KnowsLimit (link_of number c) limit
     → KnowsLimit (link_of number (cond b (with_link server (wish_taken (link_of server c)) c) c)) limit

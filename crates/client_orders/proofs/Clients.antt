@@ -10,11 +10,10 @@ use Rattle.ua_base.specs.declared.modes.SetMode.TheVariants.{Direct, Hot, Warm, 
 use Rattle.ua_values.specs.Laws.{KeepsText}
 use Rattle.ua_chunks.specs.Sending.{Sending, limit_of}
 use Rattle.ua_channel.specs.declared.wire.Order.{Order}
-use Rattle.ua_channel.specs.Arriving.{AreLawful}
+use Rattle.ua_channel.specs.Arriving.{AreLawful, after_orders}
 use Rattle.ua_channel.specs.Sharing.{own}
 use Rattle.failover_core.specs.declared.choice.Candidate.{Candidate}
 use Rattle.failover_core.specs.Choice.{switch_of, wanted}
-use Rattle.server_keeps.specs.Lawful.{after_orders}
 use Rattle.link_rules.specs.declared.notice.Notice.{Notice}
 use Rattle.link_rules.specs.declared.notice.Notice.TheVariants as notice
 use Rattle.link_rules.specs.Said.{LinkDid, orders_of}

@@ -4,9 +4,8 @@ use Rattle.std.specs.List.{AllByRecursion}
 use Rattle.std.proofs.lemmas.List.{append_assoc}
 use Rattle.ua_chunks.specs.Sending.{Sending}
 use Rattle.ua_channel.specs.declared.wire.Order.{Order}
-use Rattle.ua_channel.specs.Arriving.{AreLawful, after_order}
+use Rattle.ua_channel.specs.Arriving.{AreLawful, after_order, after_orders}
 use Rattle.ua_channel.specs.Sharing.{own, own_first}
-use Rattle.server_keeps.specs.Lawful.{after_orders}
 use Rattle.client_rules.specs.Links.{ordered}
 
 -- ---- places

@@ -5,9 +5,8 @@ use Rattle.std.proofs.lemmas.Bool.Decides.{nat_tests}
 use Rattle.ua_chunks.specs.declared.frame.Kind.TheVariants as kind
 use Rattle.ua_chunks.specs.Sending.{Part, Sending, after_parts, limit_of, parts_of, stepped}
 use Rattle.ua_channel.specs.declared.wire.Order.{Order}
-use Rattle.ua_channel.specs.Arriving.{AreLawful, IsLawfulOrder, after_order}
+use Rattle.ua_channel.specs.Arriving.{AreLawful, IsLawfulOrder, after_order, after_orders}
 use Rattle.ua_services.specs.Families.{written_request}
-use Rattle.server_keeps.specs.Lawful.{after_orders}
 use Rattle.link_rules.specs.Said.{LinkDid, Said, Told, Greeted, Opens, Asks, Limited, Renewed, order_of, orders_of, told_order}
 use Rattle.link_rules.specs.Opening.{begins_anew}
 use Rattle.link_rules.specs.State.{LinkState}

@@ -1,9 +1,8 @@
 -- What a client orders for a server's connection fits its end, whose limits the client's link knows.
 use Rattle.std.specs.Prelude.{◌≡◌, ◌≤◌, ℕ, true}
 use Rattle.ua_chunks.specs.Sending.{Sending, limit_of}
-use Rattle.ua_channel.specs.Arriving.{AreLawful}
+use Rattle.ua_channel.specs.Arriving.{AreLawful, after_orders}
 use Rattle.ua_channel.specs.Sharing.{own}
-use Rattle.server_keeps.specs.Lawful.{after_orders}
 use Rattle.link_rules.specs.Closing.{stands_in}
 use Rattle.link_rules.specs.State.{LinkState}
 use Rattle.link_rules.specs.Said.{LinkDid, orders_of}

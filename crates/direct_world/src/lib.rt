@@ -3,6 +3,8 @@
 
 pub mod laws;
 mod server;
+mod shared;
 mod world;
 
+pub use shared::{append, next_changes, place_in};
 pub use world::World;

@@ -5,6 +5,7 @@ ghost use Rattle.direct_world.specs.Acts.{after_acts, entering, taking, taking_p
 ghost use Rattle.direct_world.specs.Server.{place_in, pushed_at, new_server, next_of, pushed_all, fed, stopped, opened, opened_all, values_of, started, arrived, left_after, taken_place};
 ghost use Rattle.direct_world.specs.Lives.{values_from};
 
+use crate::shared::{next_changes, place_in};
 use delivery_log::Log;
 use item_queue::{Entry, ItemQueue};
 use set_model::{Arrived, Change, Seen, SourceLog};
@@ -28,32 +29,6 @@ impl Model for Server {
     ghost Value = { ServerState };
 
     ghost view = { λ s. record { boot = s.boot; running = s.running; position = s.position; queues = s.queues.items } };
-}
-
-/// The place in a list of what is numbered from 1.
-pub(crate) fn place_in(number: u8, count: usize) -> Option<usize>
-    ensures place { result ≡ place_in number count }
-    ensures within { IfSome result (λ place. place < count) }
-{
-    let number = usize::from(number);
-    if 1 <= number && number <= count {
-        Some(number - 1)
-    } else {
-        None
-    }
-}
-
-/// The changes from a place on, up to so many.
-fn next_changes(changes: &[Change], place: usize, count: usize) -> &[Change]
-    ensures changes { result.now ≡ take count (drop place changes.now) }
-    ensures within { place + length result.now ≤ max place (length changes.now) }
-{
-    if place <= changes.len() {
-        let (_, next) = changes.split_at(place);
-        next.split_at(count.min(next.len())).0
-    } else {
-        &[]
-    }
 }
 
 /// Pushes a change into the queue of its item, if there is one.

@@ -4,10 +4,11 @@ ghost use Rattle.direct_world.specs.Acts.{after_acts, reopening};
 ghost use Rattle.direct_world.specs.Server.{place_in, new_server};
 ghost use Rattle.direct_world.specs.World.{after, after_step, appended, fed_at, new_world, server_at, started_at, stopped_at, taken_at};
 
-use crate::server::{Server, place_in};
+use crate::server::Server;
+use crate::shared::{append, place_in};
 use delivery_log::{Joint, Log, Turn};
 use scenario::Line;
-use set_model::{Change, GapCause, LogLine, MOST_PICO, SourceFault, SourceLog};
+use set_model::{Change, GapCause, LogLine, SourceLog};
 use std::alloc::Global;
 use std::marker::Model;
 use ua_base::OutOfMemory;
@@ -30,19 +31,6 @@ impl Model for World {
     ghost view = { λ w. record { source = w.source; servers = w.servers.items; log = w.log; failed = w.failed } };
 
     ghost invariant = { λ w. IsShaped w.servers.items w.log };
-}
-
-/// Appends a change, unless it can't be one of the source.
-fn append(source: &mut SourceLog, change: Change) -> Result<(), OutOfMemory>
-    ensures { OnOk result (source.new ≡ appended change source.old) }
-{
-    if change.pico > MOST_PICO {
-        return Ok(());
-    }
-    match source.append(change) {
-        Err(SourceFault::OutOfMemory) => Err(OutOfMemory),
-        _ => Ok(()),
-    }
 }
 
 /// Makes the joints of a server's items those of a new life.

@@ -10,7 +10,7 @@ use Rattle.ua_channel.specs.declared.wire.Order.{Order}
 use Rattle.ua_channel.specs.State.{ChannelState, WireState, blank_end, is_deaf}
 use Rattle.ua_channel.specs.Messages.{hearing_of, no_tokens}
 use Rattle.ua_channel.specs.Node.{Deafens, NodeState, deaf, node_after, node_of}
-use Rattle.ua_channel.specs.Arriving.{AreLawful, Chain, Expects, Follows, Sent, after_sent, bytes_of, heard_all, heard_in, heard_next, past}
+use Rattle.ua_channel.specs.Arriving.{AreLawful, Chain, Expects, Follows, Sent, after_sent, bytes_of, heard_all, heard_in, heard_next, past, after_orders}
 use Rattle.ua_channel.specs.Sharing.{Ends, end_at, others, own, put_back, taken_at, taken_by, with_end}
 use Rattle.ua_channel.proofs.Chaining.{chains_arrive}
 use Rattle.ua_channel.proofs.Coming.{all_heard, next_deaf, next_open}
@@ -18,7 +18,7 @@ use Rattle.ua_channel.proofs.OneEnd.{others_apart}
 use Rattle.ua_channel.proofs.Showing.{next_number}
 use Rattle.message_ends.specs.Ends.{MessageEnd, MessageEnds, obeyed_all, out_by}
 use Rattle.message_ends.specs.Talk.{Talk, heard_all as all_taken, heard_one}
-use Rattle.message_ends.specs.Showing.{AllBring, EndShows, ExpectsIn, LimitIn, OrdersBring, ShowsEnd, Stands, after_orders}
+use Rattle.message_ends.specs.Showing.{AllBring, EndShows, ExpectsIn, LimitIn, OrdersBring, ShowsEnd, Stands}
 use Rattle.message_ends.proofs.Lookups.{end_apart, end_found, number_is, obeyed_in, other_way, others_obeyed}
 use Rattle.message_ends.proofs.Ordering.{IsLawfulFor, bring_each, expects_in, obeys_in, sends_after}
 use Rattle.message_ends.proofs.Hearing.{Leaves, end_hears, leaves, none_taken, taken_deaf, told_core, told_sending}

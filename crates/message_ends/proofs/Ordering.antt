@@ -1,7 +1,5 @@
 -- Orders that all ends of a node obey.
 use Rattle.std.proofs.Common.{◌≡◌, ℕ, ◌==◌, Bool, true, false, cond, List, [], ◌∷◌, ◌++◌, Option, Some, None, is_some, refl, sym, ap, subst, ◌∙◌}
-use Rattle.ua_chunks.specs.Assembly.{takes_number}
-use Rattle.ua_chunks.specs.Framing.{IsBetween}
 use Rattle.ua_chunks.specs.Sending.{Sending, limit_of}
 use Rattle.ua_channel.specs.declared.ear.Ear.{Ear}
 use Rattle.ua_channel.specs.declared.ear.Ear.TheVariants as ear
@@ -13,40 +11,17 @@ use Rattle.ua_channel.specs.State.{ChannelState, WireState}
 use Rattle.ua_channel.specs.Orders as bytes
 use Rattle.ua_channel.specs.Messages.{MessageState, obeyed_message, obeyed_messages}
 use Rattle.ua_channel.specs.Node.{node_of}
-use Rattle.ua_channel.specs.Arriving.{AreLawful, Expects, Mirrors, after_order}
+use Rattle.ua_channel.specs.Arriving.{AreLawful, Mirrors, after_order, after_orders}
 use Rattle.ua_channel.specs.Sharing.{Ends, end_at, emptied_by as bytes_emptied_by, obeyed_each as bytes_obeyed_each, own}
-use Rattle.ua_channel.proofs.Showing.{shows_ordered}
+use Rattle.ua_channel.proofs.Showing.{expects_obeyed, shows_ordered}
 use Rattle.message_ends.specs.Ends.{MessageEnd, MessageEnds, emptied, emptied_by, obeyed, obeyed_all, obeyed_by, obeyed_each, out_by, set_end}
 use Rattle.message_ends.specs.Talk.{Talk, without_out}
-use Rattle.message_ends.specs.Showing.{AllBring, EndShows, ExpectsIn, LimitIn, OrderBrings, OrdersBring, ShowsEnd, Stands, after_orders}
+use Rattle.message_ends.specs.Showing.{AllBring, EndShows, ExpectsIn, LimitIn, OrderBrings, OrdersBring, ShowsEnd, Stands, firsts_with, next_in}
 use Rattle.message_ends.proofs.Lookups.{each_obeyed, end_apart, end_found, number_is, obeyed_in, other_way, same_number}
 
 -- ---- an end is no node with a core
 
 -- orders change nothing of what is awaited
-expects_same : (next : ℕ) (c d : ChannelState) → d.framing ≡ c.framing → d.assembly.last ≡ c.assembly.last → d.assembly.chunks ≡ c.assembly.chunks
-    → d.assembly.body ≡ c.assembly.body → d.assembly.fault ≡ c.assembly.fault → Expects next c → Expects next d
-expects_same next c d f l n b e x = record {
-  number = ap (takes_number next) l ∙ x.number;
-  chunks = n ∙ x.chunks;
-  body = b ∙ x.body;
-  fault = e ∙ x.fault;
-  between = subst IsBetween (sym f) x.between;
-}
-
-expects_by : (b : Bool) (o : Order) (next : ℕ) (c : ChannelState) → Expects next c → Expects next (cond b (bytes.done o c) (bytes.undone o c))
-unfolding bytes.put_on
-expects_by true (order.Put w) next c x = expects_same next c (bytes.put_on w c) refl refl refl refl refl x
-expects_by true (order.Limit l) next c x = expects_same next c (bytes.done (order.Limit l) c) refl refl refl refl refl x
-expects_by true (order.Renew channel token) next c x = expects_same next c (bytes.done (order.Renew channel token) c) refl refl refl refl refl x
-expects_by false (order.Put w) next c x = expects_same next c (bytes.undone (order.Put w) c) refl refl refl refl refl x
-expects_by false (order.Limit l) next c x = x
-expects_by false (order.Renew channel token) next c x = x
-
-pub expects_obeyed : (orders : List Order) (next : ℕ) (c : ChannelState) → Expects next c → Expects next (bytes.obeyed_all orders c)
-expects_obeyed [] next c x = x
-expects_obeyed (o ∷ orders) next c x = expects_obeyed orders next (bytes.obeyed o c) (expects_by (bytes.fits_in o c.sending) o next c x)
-
 pub expects_in : (orders : List Order) (next : ℕ) (end : Option ChannelState) → ExpectsIn next end → ExpectsIn next (obeyed_in orders end)
 expects_in orders next None x = tt
 expects_in orders next (Some c) x = expects_obeyed orders next c x
@@ -194,14 +169,6 @@ expects_each k next orders ends x =
     subst (ExpectsIn next) (sym (each_obeyed k orders ends)) (expects_in (own k orders) next (end_at k ends) x)
 
 -- ---- what was put is taken
-
-abbrev pub next_in : Option ChannelState → ℕ
-next_in None = 1
-next_in (Some c) = c.sending.next
-
--- from then on the messages of this connection begin with the next number
-abbrev pub firsts_with : ℕ → ℕ → (ℕ → ℕ) → ℕ → ℕ
-firsts_with conn next firsts k = cond (k == conn) next (firsts k)
 
 set_by : (b : Bool) (e f : Option MessageEnd) → b ≡ true → cond b e f ≡ e
 set_by b e f is = ap (λ x. cond x e f) is

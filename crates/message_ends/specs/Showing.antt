@@ -1,12 +1,12 @@
 -- A node over bytes is shown by one over messages.
-use Rattle.std.specs.Prelude.{◌≡◌, ℕ, List, [], ◌∷◌, map, Option, Some, None}
+use Rattle.std.specs.Prelude.{◌≡◌, ℕ, ◌==◌, if◌then◌else◌, List, [], ◌∷◌, map, Option, Some, None}
 use Rattle.ua_chunks.specs.Assembly.{tokens_of}
-use Rattle.ua_chunks.specs.Sending.{IsSending, Sending, limit_of}
+use Rattle.ua_chunks.specs.Sending.{IsSending, limit_of}
 use Rattle.ua_channel.specs.declared.hub.Rest.{Rest}
 use Rattle.ua_channel.specs.declared.wire.Order.{Order}
 use Rattle.ua_channel.specs.declared.wire.Order.TheVariants as order
 use Rattle.ua_channel.specs.State.{ChannelState, WireState}
-use Rattle.ua_channel.specs.Arriving.{Chain, Expects, Sent, after_order, bytes_of}
+use Rattle.ua_channel.specs.Arriving.{Chain, Expects, Sent, bytes_of}
 use Rattle.ua_channel.specs.Sharing.{end_at}
 use Rattle.message_ends.specs.Ends.{MessageEnd, out_by}
 use Rattle.message_ends.specs.Talk.{Talk}
@@ -36,6 +36,17 @@ pub record Shows {H : Type 0} (firsts : ℕ → ℕ) (r : Rest H) (t : Talk H) :
   pub hub : r.hub ≡ t.hub
   pub ends : (conn : ℕ) → ShowsEnd (firsts conn) (end_at conn r.channels) (t.ends conn)
 
+-- ---- numbers of chunks
+
+-- the number that the end gives next
+abbrev pub next_in : Option ChannelState → ℕ
+next_in None = 1
+next_in (Some c) = c.sending.next
+
+-- from then on the messages of this connection begin with this number
+abbrev pub firsts_with : ℕ → ℕ → (ℕ → ℕ) → ℕ → ℕ
+firsts_with conn next firsts k = if k == conn then next else firsts k
+
 -- ---- what comes next
 
 abbrev pub ExpectsIn : ℕ → Option ChannelState → Type 0
@@ -64,12 +75,6 @@ module _ (Brings : WireState → Type 0) where
   abbrev pub OrdersBring : List (ℕ × Order) → Type 0
   OrdersBring [] = Unit {0}
   OrdersBring (o ∷ orders) = OrderBrings o.1 × OrdersBring orders
-
--- ---- what puts on an end, after these orders
-
-abbrev pub after_orders : List Order → Sending → Sending
-after_orders [] s = s
-after_orders (o ∷ orders) s = after_orders orders (after_order o s)
 
 -- ---- a hub whose ends are shown
 

@@ -1,7 +1,7 @@
-mod Lists
+pub mod Lists
 mod Numbers
-mod Values
-mod Lengths
+pub mod Values
+pub mod Lengths
 mod Sessions
 mod Messages
 mod Subs
@@ -20,6 +20,9 @@ mod Ticking
 mod Connecting
 mod Living
 mod Again
+pub mod Watching
+mod WatchingServices
+pub mod WatchingEvents
 mod Short
 mod Lawful
 mod Taking

@@ -1,8 +1,8 @@
 -- What a server puts on a connection fits its end, whose limits the server knows.
-use Rattle.std.specs.Prelude.{◌≡◌, ◌≢◌, ℕ, List, [], ◌∷◌, IfSome}
+use Rattle.std.specs.Prelude.{◌≡◌, ◌≢◌, ℕ, List, IfSome}
 use Rattle.ua_chunks.specs.Sending.{Sending, limit_of}
 use Rattle.ua_channel.specs.declared.wire.Order.{Order}
-use Rattle.ua_channel.specs.Arriving.{AreLawful, after_order}
+use Rattle.ua_channel.specs.Arriving.{AreLawful, after_orders}
 use Rattle.ua_channel.specs.Sharing.{own}
 use Rattle.server_rules.specs.State.{ServerState, conn_at}
 use Rattle.server_rules.specs.Said.{Did, orders_of}
@@ -20,11 +20,6 @@ OpensOther number (Closes other) = Unit {0}
 OpensOther number (Feeds change) = Unit {0}
 OpensOther number (Ticks ms) = Unit {0}
 OpensOther number (Levels level) = Unit {0}
-
--- what puts on an end, after these orders
-abbrev pub after_orders : List Order → Sending → Sending
-after_orders [] s = s
-after_orders (o ∷ orders) s = after_orders orders (after_order o s)
 
 -- the orders for a connection
 abbrev pub orders_for : ℕ → Did → List Order

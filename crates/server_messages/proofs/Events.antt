@@ -8,20 +8,20 @@ use Rattle.set_model.specs.declared.source.Change.{Change}
 use Rattle.ua_chunks.specs.Sending.{IsSending, Sending, limit_of}
 use Rattle.ua_channel.specs.declared.side.Side.TheVariants as sides
 use Rattle.ua_channel.specs.State.{ChannelState, first_sending, new_channel}
-use Rattle.ua_channel.specs.Arriving.{Expects}
+use Rattle.ua_channel.specs.Arriving.{Expects, after_orders}
 use Rattle.ua_channel.specs.Sharing.{Ends, end_at}
 use Rattle.message_ends.specs.Ends.{MessageEnd, MessageEnds, new_end, obeyed_by, out_by, set_end}
 use Rattle.message_ends.specs.Talk.{Talk}
-use Rattle.message_ends.specs.Showing.{AllBring, EndShows, ExpectsIn, LimitIn, ShowsEnd, Stands}
+use Rattle.message_ends.specs.Showing.{AllBring, EndShows, ExpectsIn, LimitIn, ShowsEnd, Stands, firsts_with}
 use Rattle.message_ends.proofs.Lookups.{number_is, same_number}
-use Rattle.message_ends.proofs.Ordering.{expects_each, firsts_with, ordered}
+use Rattle.message_ends.proofs.Ordering.{expects_each, ordered}
 use Rattle.server_rules.specs.declared.config.ServerConfig.{ServerConfig}
 use Rattle.server_rules.specs.State.{ServerState, conn_at, new_server}
 use Rattle.server_rules.specs.Said.{Did, nothing, orders_of}
 use Rattle.server_rules.specs.Connecting.{is_above, opened as conn_opened, with_new_conn}
 use Rattle.server_rules.specs.Step.{Closes, Feeds, Happening, Levels, Opens, Ticks, after}
 use Rattle.server_keeps.specs.Fitting.{FitsChange, FitsHappening, FitsServer}
-use Rattle.server_keeps.specs.Lawful.{HasLimit, OpensOther, after_orders, orders_for}
+use Rattle.server_keeps.specs.Lawful.{HasLimit, OpensOther, orders_for}
 use Rattle.server_laws.specs.Numbers.{RiseTo}
 use Rattle.ua_server.specs.State.{BytesState, new_bytes}
 use Rattle.ua_server.specs.Step.{closed_bytes, end_closed as bytes_end_closed, end_opened as bytes_end_opened, opened_bytes, with_ends as bytes_with_ends}

@@ -8,7 +8,7 @@ use Rattle.ua_channel.specs.declared.heard.Heard.{Heard}
 use Rattle.ua_channel.specs.declared.heard.Heard.TheVariants as said
 use Rattle.ua_channel.specs.declared.wire.Order.{Order}
 use Rattle.ua_channel.specs.State.{WireState, first_sending}
-use Rattle.ua_channel.specs.Arriving.{after_order}
+use Rattle.ua_channel.specs.Arriving.{after_orders}
 use Rattle.ua_channel.specs.Hearing.{takes}
 use Rattle.ua_channel.specs.Messages.{Judged, hearing_of, judged_by, judges, message_of_channel}
 use Rattle.ua_services.specs.declared.reply.Reply.{Reply}
@@ -18,9 +18,9 @@ use Rattle.server_rules.specs.Said.{Acknowledged, Limited, Opened, Refused, Rene
 use Rattle.server_rules.specs.Opening.{opening_reply}
 use Rattle.server_rules.specs.Step.{Happening, Hears, Opens, after}
 use Rattle.server_keeps.specs.Fitting.{FitsHappening, FitsHeard, FitsServer, KeepsDid, KeepsSaid, KeepsTold}
-use Rattle.server_keeps.specs.Lawful.{HasLimit, IsLawfulOn, OpensOther, after_orders, orders_for}
+use Rattle.server_keeps.specs.Lawful.{HasLimit, IsLawfulOn, OpensOther, orders_for}
 use Rattle.link_keeps.specs.Fitting as link
-use Rattle.message_ends.specs.Showing.{OrderBrings, OrdersBring, after_orders as after_all}
+use Rattle.message_ends.specs.Showing.{OrderBrings, OrdersBring}
 use Rattle.message_ends.proofs.Ordering.{IsLawfulFor}
 use Rattle.server_messages.specs.Fitting.{Brings}
 use Rattle.server_messages.specs.Messages.{answers}
@@ -85,19 +85,10 @@ pub brings : Rules → (happening : Happening) (s : ServerState) → FitsServer 
     → OrdersBring Brings (orders_of (after happening s).said)
 brings law happening s fits happens = all_bring law (after happening s).said (law.keeps happening s fits happens).said
 
--- two words for one thing
-same_after : (orders : List Order) (s : Sending) → after_orders orders s ≡ after_all orders s
-same_after [] s = refl
-same_after (o ∷ orders) s = same_after orders (after_order o s)
-
 pub lawful : Rules → (number : ℕ) (happening : Happening) (s : ServerState) → FitsServer s → FitsHappening happening
     → OpensOther number happening → IsLawfulFor HasLimit number (orders_of (after happening s).said) s (after happening s).state
 lawful law number happening s fits happens other sending limit =
-    let is = law.lawful number sending happening s fits happens other limit in (
-      is.lawful,
-      subst (λ (x : Sending). HasLimit number (limit_of x) (after happening s).state)
-          (same_after (orders_for number (after happening s)) sending) is.limit,
-    )
+    let is = law.lawful number sending happening s fits happens other limit in (is.lawful, is.limit)
 
 -- ---- what is heard on a connection
 

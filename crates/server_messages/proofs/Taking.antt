@@ -10,9 +10,9 @@ use Rattle.ua_channel.specs.Node.{NodeState, node_after}
 use Rattle.ua_channel.specs.Sharing.{Ends, emptied_by, end_at, out_by as bytes_out_by, taken_by}
 use Rattle.message_ends.specs.Ends.{MessageEnd, out_by}
 use Rattle.message_ends.specs.Talk.{Talk, out_of, without_out}
-use Rattle.message_ends.specs.Showing.{AllBring, ExpectsIn, ShowsEnd}
+use Rattle.message_ends.specs.Showing.{AllBring, ExpectsIn, ShowsEnd, firsts_with, next_in}
 use Rattle.message_ends.proofs.Lookups.{end_apart, other_way, others_obeyed}
-use Rattle.message_ends.proofs.Ordering.{expects_emptied, expects_in, firsts_with, next_in, taken as emptied}
+use Rattle.message_ends.proofs.Ordering.{expects_emptied, expects_in, taken as emptied}
 use Rattle.server_rules.specs.State.{ServerState}
 use Rattle.server_rules.specs.Said.{orders_of}
 use Rattle.server_rules.specs.Step.{ears, heard}

@@ -43,7 +43,7 @@ expects_by false (order.Renew channel token) next c x = x
 expects_one : (o : Order) (next : ℕ) (c : ChannelState) → Expects next c → Expects next (obeyed o c)
 expects_one o next c x = expects_by (fits_in o c.sending) o next c x
 
-expects_obeyed : (os : List Order) (next : ℕ) (c : ChannelState) → Expects next c → Expects next (obeyed_all os c)
+pub expects_obeyed : (os : List Order) (next : ℕ) (c : ChannelState) → Expects next c → Expects next (obeyed_all os c)
 expects_obeyed [] next c x = x
 expects_obeyed (o ∷ os) next c x = expects_obeyed os next (obeyed o c) (expects_one o next c x)
 

@@ -94,6 +94,11 @@ abbrev pub AreLawful : List Order → Sending → Type 0
 AreLawful [] s = Unit {0}
 AreLawful (o ∷ orders) s = IsLawfulOrder o s × AreLawful orders (after_order o s)
 
+-- what puts on an end, after these orders
+abbrev pub after_orders : List Order → Sending → Sending
+after_orders [] s = s
+after_orders (o ∷ orders) s = after_orders orders (after_order o s)
+
 module _ {C : Type 0} (ears : C → Ear) (answer : Heard → C → C × List Order) where
   -- what is heard of it
   abbrev pub heard_in : Sent → NodeState C → Heard
