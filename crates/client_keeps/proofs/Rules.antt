@@ -1,5 +1,5 @@
 -- Each rule leaves a client that fits, and lets it say what keeps the limits.
-use Rattle.std.proofs.Common.{◌≡◌, ℕ, zero, suc, ◌+◌, ◌-◌, ◌<◌, ◌≤◌, ◌^◌, List, [], ◌∷◌, ◌++◌, map, length, replicate, Bool, true, false, Option, Some, None, if◌then◌else◌, slice_index_or, slice_set, codes, refl, sym, subst, arith}
+use Rattle.std.proofs.Common.{◌≡◌, ℕ, zero, suc, ◌+◌, ◌-◌, ◌<◌, ◌≤◌, ◌^◌, List, [], ◌∷◌, ◌++◌, map, length, replicate, Bool, true, false, Option, Some, None, if◌then◌else◌, slice_index_or, slice_set, codes, refl, sym, subst, arith, cond}
 use Rattle.std.specs.List.{AllByRecursion}
 use Rattle.std.specs.Fmt.{decimal}
 use Rattle.std.proofs.lemmas.Fmt.{length-decimal-le}
@@ -11,21 +11,23 @@ use Rattle.failover_core.specs.declared.choice.Candidate.{Candidate}
 use Rattle.failover_core.specs.Choice.{switch_of, wanted}
 use Rattle.link_rules.specs.declared.notice.Notice.{Notice}
 use Rattle.link_rules.specs.declared.notice.Notice.TheVariants as notice
+use Rattle.link_rules.specs.declared.phase.Phase.{Phase}
+use Rattle.link_rules.specs.declared.phase.Phase.TheVariants as phase
 use Rattle.link_rules.specs.Said.{LinkDid, Said}
 use Rattle.link_rules.specs.State.{LinkState, is_ready, new_link}
 use Rattle.link_rules.specs.Opening as opening
 use Rattle.link_rules.specs.Time as time
 use Rattle.link_rules.specs.Step as link
-use Rattle.link_keeps.specs.Fitting.{Fits, FitsLink, KeepsSaid}
+use Rattle.link_keeps.specs.Fitting.{Fits, FitsLink, FitsPhase, KeepsSaid}
 use Rattle.link_keeps.proofs.Rules as links
 use Rattle.client_rules.specs.declared.config.ClientConfig.{ClientConfig}
-use Rattle.client_rules.specs.State.{ClientState, idle_client, link_config, link_of, servers_of, with_link}
+use Rattle.client_rules.specs.State.{ClientState, idle_client, link_config, link_of, servers_of, with_link, is_server}
 use Rattle.client_rules.specs.Acts.{Happening, Tells, Says, Opens, Refuses, Hears, Closes, Ticks}
 use Rattle.client_rules.specs.Doing.{ClientDid, and_then, each_server, nothing}
 use Rattle.client_rules.specs.Links.{all_told, fell, falls, linked, linked_by, moved, told}
 use Rattle.client_rules.specs.Settling.{are_fewer, chosen, modes_told, ready_of, round, settled, settled_within, switched, told_mode, with_choice}
 use Rattle.client_rules.specs.Dialling.{are_idle, dialled, dialled_by, dials_among, dials_at, dials_if, first_to_dial, has_numbers}
-use Rattle.client_rules.specs.Step.{Moment, Goes, Ends, after, after_all, at_moment, counted, dial_text, endpoint, happening, happens, is_known, new_client, url_text}
+use Rattle.client_rules.specs.Step.{Moment, Goes, Ends, Takes, without_wish, after, after_all, at_moment, counted, dial_text, endpoint, happening, happens, is_known, new_client, url_text}
 use Rattle.client_keeps.specs.Fitting.{FitsClient, FitsConfig, FitsHappening, FitsMoment, FitsUrl, KeepsAct}
 
 -- ---- lists
@@ -253,9 +255,48 @@ after_fits h c kept fits =
 pub after_client : (h : Happening) (c : ClientState) → FitsHappening h → FitsClient c → FitsClient (after h c).client
 after_client h c kept fits = (after_fits h c kept fits).client
 
+-- ---- wishes
+
+taken_phase : (p : Phase) → FitsPhase p → FitsPhase (link.taken_in p)
+taken_phase (phase.Dialing taken) fits = tt
+taken_phase other fits = fits
+
+abbrev taken_by : Bool → LinkState → LinkState
+taken_by b l = cond b (record l { closes = false }) (record l { phase = link.taken_in l.phase })
+
+link_taken : (b : Bool) (l : LinkState) → FitsLink l → FitsLink (taken_by b l)
+link_taken true l fits = record {
+  config = fits.config;
+  phase = fits.phase;
+  url = fits.url;
+  session = fits.session;
+  conversation = fits.conversation;
+  remembered = fits.remembered;
+  monitored = fits.monitored;
+  monitored_count = fits.monitored_count;
+  acks = fits.acks;
+}
+link_taken false l fits = record {
+  config = fits.config;
+  phase = taken_phase l.phase fits.phase;
+  url = fits.url;
+  session = fits.session;
+  conversation = fits.conversation;
+  remembered = fits.remembered;
+  monitored = fits.monitored;
+  monitored_count = fits.monitored_count;
+  acks = fits.acks;
+}
+
+pub wish_fits : (b : Bool) (server : ℕ) (c : ClientState) → FitsClient c → FitsClient (cond b (with_link server (link.wish_taken (link_of server c)) c) c)
+wish_fits true server c fits =
+    with_link_fits server (link.wish_taken (link_of server c)) c (link_taken (link_of server c).closes (link_of server c) (of_server server c fits)) fits
+wish_fits false server c fits = fits
+
 moment_fits : (m : Moment) (c : ClientState) → FitsMoment m → FitsClient c → FitsDid (at_moment m c)
 moment_fits (Goes h) c kept fits = after_fits h c kept fits
 moment_fits Ends c kept fits = fits_nothing (dialled c) (dialled_fits c fits)
+moment_fits (Takes server) c kept fits = fits_nothing (without_wish server c) (wish_fits (is_server server c) server c fits)
 
 all_fit : (moments : List Moment) (c : ClientState) → AllByRecursion FitsMoment moments → FitsClient c → FitsDid (after_all moments c)
 unfolding after_all

@@ -6,7 +6,7 @@ use Rattle.link_keeps.specs.Fitting.{FitsHeard, FitsLink, IsUInt32, KeepsSaid}
 use Rattle.client_rules.specs.declared.config.ClientConfig.{ClientConfig}
 use Rattle.client_rules.specs.State.{ClientState}
 use Rattle.client_rules.specs.Acts.{ClientAct, Happening, Happened, Tells, Says, Switches, Opens, Refuses, Hears, Closes, Ticks}
-use Rattle.client_rules.specs.Step.{Moment, Goes, Ends}
+use Rattle.client_rules.specs.Step.{Moment, Goes, Ends, Takes}
 
 -- a url to which a number can be appended
 abbrev pub FitsUrl : Option (List ℕ) → Type 0
@@ -28,6 +28,7 @@ FitsHappening (Ticks ms) = Unit {0}
 abbrev pub FitsMoment : Moment → Type 0
 FitsMoment (Goes h) = FitsHappening h
 FitsMoment Ends = Unit {0}
+FitsMoment (Takes server) = Unit {0}
 
 pub record FitsClient (c : ClientState) : Type 0 where
   pub config : FitsConfig c.config

@@ -1,32 +1,34 @@
 -- Each switch is a choice among the servers that the acts before it tell to be ready.
-use Rattle.std.proofs.Common.{◌≡◌, ◌≢◌, ◌⊎◌, ℕ, zero, suc, ◌+◌, ◌-◌, ◌==◌, ◌<◌, ◌≤◌, ◌&&◌, List, [], ◌∷◌, ◌++◌, map, length, replicate, Bool, true, false, nat_le, Option, Some, None, if◌then◌else◌, slice_index_or, slice_set, refl, sym, ◌∙◌, ap, ap₂, subst, inl, inr, arith}
+use Rattle.std.proofs.Common.{◌≡◌, ◌≢◌, ◌⊎◌, ℕ, zero, suc, ◌+◌, ◌-◌, ◌==◌, ◌≤◌, ◌&&◌, List, [], ◌∷◌, ◌++◌, map, length, replicate, Bool, true, false, nat_le, Option, Some, None, if◌then◌else◌, slice_index_or, slice_set, refl, sym, ◌∙◌, ap, ap₂, subst, inl, inr, arith}
 use Rattle.std.proofs.lemmas.Bool.Decides.{nat_tests}
 use Rattle.std.proofs.lemmas.Grind.{get_or-set_at}
 use Rattle.std.proofs.lemmas.List.{length-set, length-replicate, get_or-set_other, get_or-replicate, set-get_or}
 use Rattle.ua_base.specs.declared.modes.SetMode.{SetMode}
 use Rattle.ua_base.specs.declared.modes.SetMode.TheVariants.{Direct, Hot, Warm, Cold}
 use Rattle.failover_core.specs.declared.choice.Candidate.{Candidate}
-use Rattle.failover_core.specs.Choice.{choose, decided, is_same, number_of, switch_between, switch_of, wanted}
+use Rattle.failover_core.specs.Choice.{choose, is_same, number_of, wanted}
 use Rattle.failover_core.specs.State.{CoreState}
 use Rattle.failover_core.specs.Laws.{IsAmong, IsBest}
 use Rattle.failover_core.proofs.Best as best
 use Rattle.link_rules.specs.declared.notice.Notice.{Notice}
 use Rattle.link_rules.specs.declared.notice.Notice.TheVariants as notice
 use Rattle.link_rules.specs.Said.{LinkDid, Said}
-use Rattle.link_rules.specs.State.{LinkState, is_ready, new_link}
+use Rattle.link_rules.specs.declared.phase.Phase.{Phase}
+use Rattle.link_rules.specs.declared.phase.Phase.TheVariants as phase
+use Rattle.link_rules.specs.State.{LinkState, is_ready, is_ready_phase, new_link}
 use Rattle.link_rules.specs.Opening as opening
 use Rattle.link_rules.specs.Time as time
 use Rattle.link_rules.specs.Step as link
 use Rattle.client_rules.specs.declared.config.ClientConfig.{ClientConfig}
-use Rattle.client_rules.specs.State.{ClientState, idle_client, is_server, level_of, link_config, link_of, servers_of, with_level, with_link}
+use Rattle.client_rules.specs.State.{ClientState, idle_client, is_server, level_of, link_config, link_of, servers_of, with_link}
 use Rattle.client_rules.specs.Acts.{ClientAct, Happening, Happened, Tells, Says, Switches, Opens, Refuses, Hears, Closes, Ticks}
 use Rattle.client_rules.specs.Doing.{ClientDid, and_then, each_server, nothing}
-use Rattle.client_rules.specs.Links.{all_told, fell, falls, server_after, linked, linked_by, moved, told, with_level_told}
+use Rattle.client_rules.specs.Links.{all_told, fell, falls, server_after, linked, linked_by, moved, told}
 use Rattle.client_rules.specs.Settling.{are_fewer, candidate_of, chosen, ready_among, ready_of, round, settled, settled_within, switched, told_mode, with_choice}
-use Rattle.client_rules.specs.Dialling.{are_idle, dialled, dialled_by, dials_among, dials_at, dials_if, dials_one, first_to_dial, has_numbers}
-use Rattle.client_rules.specs.Step.{Moment, Goes, Ends, after, after_all, at_moment, counted, happening, happens, is_known, new_client, opens, ticks}
+use Rattle.client_rules.specs.Dialling.{are_idle, dialled, dialled_by, dials_among, dials_at, dials_if, first_to_dial, has_numbers}
+use Rattle.client_rules.specs.Step.{Moment, Goes, Ends, Takes, without_wish, after, after_all, at_moment, counted, happening, happens, is_known, new_client}
 use Rattle.client_laws.specs.Life.{acts_of}
-use Rattle.client_laws.specs.Choosing.{AreChoices, IsChoice, Told, candidate_at, candidates_among, candidates_of, level_at, level_by, nothing_told, ready_at, ready_by, server_of, told_after, told_by}
+use Rattle.client_laws.specs.Choosing.{AreChoices, IsChoice, Told, candidates_among, candidates_of, level_by, nothing_told, ready_at, ready_by, server_of, told_after, told_by}
 use Rattle.client_laws.proofs.Readiness.{Tracks, closed_tracks, dials_unready, heard_tracks, opened_tracks, ready_after, refused_tracks, ticked_tracks, wants_tracks}
 
 -- what was told shows the client as it is
@@ -527,9 +529,25 @@ after_follows : (h : Happening) (c : ClientState) (t : Told) → Shows c t → F
 unfolding after
 after_follows h c t shows = after_test (is_known h c) h c t refl shows
 
+ready_taken : (p : Phase) → is_ready_phase (link.taken_in p) ≡ is_ready_phase p
+ready_taken (phase.Dialing taken) = refl
+ready_taken other = refl
+
+taken_ready : (b : Bool) (l : LinkState) → is_ready (if b then record l { closes = false } else record l { phase = link.taken_in l.phase }) ≡ is_ready l
+taken_ready true l = refl
+taken_ready false l = ready_taken l.phase
+
+wish_test : (b : Bool) (server : ℕ) (c : ClientState) (t : Told) → is_server server c ≡ b → Shows c t
+    → Shows (if b then with_link server (link.wish_taken (link_of server c)) c else c) t
+wish_test false server c t is shows = shows
+wish_test true server c t is shows =
+    let within = server_is server c is in
+    dials_test true server (link.wish_taken (link_of server c)) c t within.0 (taken_ready (link_of server c).closes (link_of server c)) shows
+
 moment_follows : (m : Moment) (c : ClientState) (t : Told) → Shows c t → Follows t (at_moment m c)
 moment_follows (Goes h) c t shows = after_follows h c t shows
 moment_follows Ends c t shows = nothing_follows (dialled c) t (dialled_shows c t shows)
+moment_follows (Takes server) c t shows = nothing_follows (without_wish server c) t (wish_test (is_server server c) server c t refl shows)
 
 all_follow : (moments : List Moment) (c : ClientState) (t : Told) → Shows c t → Follows t (after_all moments c)
 unfolding after_all

@@ -1,24 +1,23 @@
 -- In a warm set an item's joint is what its window says.
-use Rattle.std.proofs.Common.{◌≡◌, ℕ, zero, suc, ◌+◌, ◌==◌, ◌&&◌, ◌≤◌, List, [], ◌∷◌, Bool, true, false, nat_le, Option, Some, None, if◌then◌else◌, refl, sym, ◌∙◌, ap, ap₂, subst, arith}
+use Rattle.std.proofs.Common.{◌≡◌, ℕ, ◌==◌, ◌&&◌, ◌≤◌, List, [], ◌∷◌, Bool, true, false, nat_le, Option, Some, None, if◌then◌else◌, refl, sym, ap, subst, arith}
 use Rattle.std.specs.Prelude.{ℤ}
 use Rattle.std.proofs.lemmas.Bool.Decides.{nat_tests}
 use Rattle.ua_base.specs.declared.modes.Mode.{Mode}
 use Rattle.ua_base.specs.declared.modes.Mode.TheVariants.{Disabled, Sampling, Reporting}
 use Rattle.ua_base.specs.declared.modes.SetMode.TheVariants.{Warm}
-use Rattle.set_model.specs.declared.line.GapCause.{GapCause}
 use Rattle.set_model.specs.declared.line.GapCause.TheVariants as cause
 use Rattle.delivery_log.specs.declared.rule.Joint.{Joint}
 use Rattle.delivery_log.specs.declared.rule.Joint.TheVariants.{Joined, Open, Held}
-use Rattle.delivery_log.specs.declared.rule.Turn.TheVariants.{Become, Loosen, Confirm}
+use Rattle.delivery_log.specs.declared.rule.Turn.TheVariants.{Loosen, Confirm}
 use Rattle.delivery_log.specs.Judge.{joint_after, turned}
-use Rattle.delivery_log.specs.History.{Act, Enter, Set, TurnAll, Note, joint_by, joint_of}
+use Rattle.delivery_log.specs.History.{Act, Enter, Set, joint_by, joint_of}
 use Rattle.ua_variants.specs.declared.variant.Stamped.{Stamped}
 use Rattle.ua_variants.specs.declared.variant.Variant.{Variant}
 use Rattle.link_rules.specs.declared.notice.Notice.{Notice}
 use Rattle.link_rules.specs.declared.notice.Notice.TheVariants as notice
 use Rattle.client_rules.specs.declared.config.ClientConfig.{ClientConfig}
 use Rattle.client_rules.specs.Arrival.{arrived_of, stamp_of}
-use Rattle.client_rules.specs.Acts.{ClientAct, Happened, Tells, Says, Switches, of_item, on_confirmed, on_sent, seen_of_act, seen_of_notice}
+use Rattle.client_rules.specs.Acts.{ClientAct, Happened, Tells, Says, Switches, on_confirmed, on_sent, seen_of_act, seen_of_notice}
 use Rattle.client_rules.specs.History.{history_after, seen_before}
 use Rattle.client_rules.specs.Step.{Moment}
 use Rattle.client_laws.specs.Life.{acts_of, history_of}

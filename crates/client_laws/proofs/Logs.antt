@@ -1,5 +1,5 @@
 -- Each rule's log is what its acts come to, and its acts are of the client's own servers and items.
-use Rattle.std.proofs.Common.{◌≡◌, ℕ, zero, suc, ◌+◌, ◌≤◌, ◌-◌, ◌&&◌, List, [], ◌∷◌, ◌++◌, map, length, Bool, true, false, nat_le, nat_lt, not, Option, Some, None, if◌then◌else◌, cond, refl, sym, ◌∙◌, ap, subst, arith, slice_set}
+use Rattle.std.proofs.Common.{◌≡◌, ℕ, zero, suc, ◌+◌, ◌≤◌, ◌-◌, ◌&&◌, List, [], ◌∷◌, ◌++◌, map, length, Bool, true, false, nat_le, Option, Some, None, if◌then◌else◌, refl, sym, ◌∙◌, ap, subst, arith}
 use Rattle.std.proofs.lemmas.Bool.Decides.{nat_tests}
 use Rattle.std.proofs.lemmas.List.{length-set, length-replicate}
 use Rattle.ua_base.specs.declared.modes.Mode.{Mode}
@@ -8,9 +8,9 @@ use Rattle.ua_base.specs.declared.modes.SetMode.{SetMode}
 use Rattle.ua_base.specs.declared.modes.SetMode.TheVariants.{Direct, Hot, Warm, Cold}
 use Rattle.delivery_log.specs.State.{LogState}
 use Rattle.delivery_log.specs.Caused.{Caused}
-use Rattle.delivery_log.specs.Log.{IsServerWithin, IsWithin, new_log}
-use Rattle.delivery_log.specs.History.{Act, Enter, Set, TurnOne, TurnAll, Note, AreWithin, IsActWithin, StandsFor, acted, lines_of, log_after, log_of}
-use Rattle.delivery_log.specs.WellFed.{AreNotes, IsNoteAct, is_note}
+use Rattle.delivery_log.specs.Log.{IsWithin, new_log}
+use Rattle.delivery_log.specs.History.{Act, AreWithin, IsActWithin, StandsFor, lines_of, log_after, log_of}
+use Rattle.delivery_log.specs.WellFed.{AreNotes, IsNoteAct}
 use Rattle.delivery_log.proofs.Kept as kept
 use Rattle.delivery_log.proofs.Causes.{caused_lines}
 use Rattle.failover_core.specs.declared.choice.Candidate.{Candidate}
@@ -23,15 +23,15 @@ use Rattle.link_rules.specs.Opening as opening
 use Rattle.link_rules.specs.Time as time
 use Rattle.link_rules.specs.Step as link
 use Rattle.client_rules.specs.declared.config.ClientConfig.{ClientConfig}
-use Rattle.client_rules.specs.State.{ClientState, idle_client, is_server, link_of, servers_of, with_link, with_log}
-use Rattle.client_rules.specs.Acts.{ClientAct, Happening, Happened, Tells, Says, Switches, Opens, Refuses, Hears, Closes, Ticks, acted_if, of_item, on_confirmed, on_sent, seen_of_act, seen_of_notice}
+use Rattle.client_rules.specs.State.{ClientState, idle_client, is_server, link_of, servers_of, with_link}
+use Rattle.client_rules.specs.Acts.{ClientAct, Happening, Tells, Says, Opens, Refuses, Hears, Closes, Ticks, acted_if, of_item, on_confirmed, on_sent, seen_of_act, seen_of_notice}
 use Rattle.client_rules.specs.Doing.{ClientDid, and_then, each_server, nothing}
-use Rattle.client_rules.specs.Links.{all_told, fell, falls, linked, linked_by, moved, told, with_level_told}
-use Rattle.client_rules.specs.Settling.{are_fewer, candidate_of, chosen, ready_of, round, settled, settled_within, switched, told_mode, with_choice}
-use Rattle.client_rules.specs.Dialling.{are_idle, dialled, dialled_by, dials_among, dials_at, dials_if, dials_one, first_to_dial, has_numbers}
-use Rattle.client_rules.specs.Step.{Moment, Goes, Ends, after, after_all, at_moment, counted, happening, happens, is_known, new_client, opens, ticks}
+use Rattle.client_rules.specs.Links.{all_told, fell, falls, linked, linked_by, moved, told}
+use Rattle.client_rules.specs.Settling.{are_fewer, chosen, ready_of, round, settled, settled_within, switched, told_mode, with_choice}
+use Rattle.client_rules.specs.Dialling.{are_idle, dialled, dialled_by, dials_among, dials_at, dials_if, first_to_dial, has_numbers}
+use Rattle.client_rules.specs.Step.{Moment, Goes, Ends, Takes, after, after_all, at_moment, counted, happening, happens, is_known, new_client, opens}
 use Rattle.client_rules.specs.History.{history_after, seen_before}
-use Rattle.client_laws.specs.Life.{acts_of, client_after, history_of, life}
+use Rattle.client_laws.specs.Life.{acts_of, client_after, history_of}
 
 -- ---- what a log comes to by acts
 
@@ -419,6 +419,9 @@ moment_keeps : (m : Moment) (c : ClientState) → Keeps c (at_moment m c)
 moment_keeps (Goes h) c = after_keeps h c
 moment_keeps Ends c =
     let stays = dialled_stays c in
+    record { config = stays.config; links = stays.links; log = stays.log; within = tt }
+moment_keeps (Takes server) c =
+    let stays = dials_test (is_server server c) server (link.wish_taken (link_of server c)) c in
     record { config = stays.config; links = stays.links; log = stays.log; within = tt }
 
 all_keep : (moments : List Moment) (c : ClientState) → Keeps c (after_all moments c)

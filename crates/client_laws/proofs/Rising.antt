@@ -1,5 +1,5 @@
 -- The stamps of an item's data lines rise, whatever was entered.
-use Rattle.std.proofs.Common.{◌≡◌, ◌==◌, ℕ, List, [], ◌∷◌, ◌++◌, map, Bool, true, false, Option, Some, None, if◌then◌else◌, refl, sym, ◌∙◌, ap, subst, arith}
+use Rattle.std.proofs.Common.{◌≡◌, ◌==◌, ℕ, List, [], ◌∷◌, ◌++◌, Bool, true, false, Option, Some, None, if◌then◌else◌, refl, sym, ◌∙◌, ap, subst, arith}
 use Rattle.std.proofs.lemmas.Bool.Decides.{nat_tests}
 use Rattle.set_model.specs.declared.line.Arrived.{Arrived}
 use Rattle.set_model.specs.declared.line.LogLine.{LogLine}
@@ -11,7 +11,7 @@ use Rattle.delivery_log.specs.declared.rule.Joint.TheVariants.{Joined, Open, Hel
 use Rattle.delivery_log.specs.declared.rule.Verdict.{Verdict}
 use Rattle.delivery_log.specs.declared.rule.Verdict.TheVariants.{Nothing, Deliver, GapDeliver}
 use Rattle.delivery_log.specs.Judge.{has_overflow, later, verdict_after, verdict_of}
-use Rattle.delivery_log.specs.Log.{data_line, entry_lines, lines_by, timed_lines}
+use Rattle.delivery_log.specs.Log.{lines_by}
 use Rattle.delivery_log.specs.History.{Act, Enter, Set, TurnOne, TurnAll, Note, joint_of, last_by, last_stamp, lines_after, lines_of}
 use Rattle.delivery_log.specs.Reading.{AreNeighbours, HaveNoData, is_data}
 use Rattle.delivery_log.specs.Safe.{Part, DataLine, GapLine, OtherLine, HeardLine, part_of, parts_of}

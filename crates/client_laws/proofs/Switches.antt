@@ -1,9 +1,9 @@
 -- There are no more switches than tidings: a choice that was made stays until a server tells something new.
-use Rattle.std.proofs.Common.{◌≡◌, ◌≢◌, ◌⊎◌, ℕ, zero, suc, ◌+◌, ◌-◌, ◌<◌, ◌≤◌, List, [], ◌∷◌, ◌++◌, length, Bool, true, false, Option, Some, None, if◌then◌else◌, slice_index_or, slice_set, replicate, refl, sym, ◌∙◌, ap, ap₂, subst, inl, inr, arith}
+use Rattle.std.proofs.Common.{◌≡◌, ◌⊎◌, ℕ, zero, suc, ◌+◌, ◌-◌, ◌<◌, ◌≤◌, List, [], ◌∷◌, ◌++◌, length, Bool, false, Option, Some, None, slice_index_or, slice_set, refl, sym, ◌∙◌, ap, ap₂, subst, inl, inr, arith}
 use Rattle.std.proofs.lemmas.List.{get_or-replicate, length-replicate, set-get_or}
 use Rattle.failover_core.specs.declared.choice.Candidate.{Candidate}
 use Rattle.failover_core.specs.Choice.{choose, number_of}
-use Rattle.failover_core.specs.Laws.{IsAmong, IsBest}
+use Rattle.failover_core.specs.Laws.{IsAmong}
 use Rattle.failover_core.proofs.Best as best
 use Rattle.link_rules.specs.declared.notice.Notice.{Notice}
 use Rattle.link_rules.specs.declared.notice.Notice.TheVariants as notice
@@ -12,7 +12,7 @@ use Rattle.client_rules.specs.State.{servers_of}
 use Rattle.client_rules.specs.Acts.{ClientAct, Happened, Tells, Says, Switches}
 use Rattle.client_rules.specs.Step.{Moment}
 use Rattle.client_laws.specs.Life.{acts_of}
-use Rattle.client_laws.specs.Choosing.{AreChoices, IsChoice, Told, candidate_at, candidates_among, candidates_of, is_tidings, level_at, nothing_told, ready_at, server_of, switches_in, tidings_in, told_by}
+use Rattle.client_laws.specs.Choosing.{AreChoices, IsChoice, Told, candidate_at, candidates_among, candidates_of, level_at, nothing_told, ready_at, server_of, switches_in, tidings_in, told_by}
 use Rattle.client_laws.proofs.Choices.{among_append, are_choices, one_from, one_if, server_number}
 
 -- ---- a choice that is made again

@@ -1,5 +1,5 @@
 -- A client's life, from its beginning on: its acts, what its log saw of them, and what it comes to.
-use Rattle.std.specs.Prelude.{ℕ, List, []}
+use Rattle.std.specs.Prelude.{List, []}
 use Rattle.delivery_log.specs.History.{Act}
 use Rattle.client_rules.specs.declared.config.ClientConfig.{ClientConfig}
 use Rattle.client_rules.specs.State.{ClientState}

@@ -8,7 +8,7 @@ use Rattle.link_rules.specs.Step as link
 use Rattle.link_rules.specs.Opening as opening
 use Rattle.link_rules.specs.Time.{ticked}
 use Rattle.client_rules.specs.declared.config.ClientConfig.{ClientConfig}
-use Rattle.client_rules.specs.State.{ClientState, idle_client, is_server, link_of}
+use Rattle.client_rules.specs.State.{ClientState, idle_client, is_server, link_of, with_link}
 use Rattle.client_rules.specs.Acts.{Happening, Opens, Refuses, Hears, Closes, Ticks, Happened}
 use Rattle.client_rules.specs.Doing.{ClientDid, and_then, each_server, nothing}
 use Rattle.client_rules.specs.Links.{linked}
@@ -70,20 +70,28 @@ ears server c = if is_server server c then link.ear_of (link_of server c) else e
 abbrev pub heard : ℕ → Heard → ClientState → ClientDid
 heard server h c = after (Hears server h) c
 
+-- ---- wishes
+
+-- what it wishes for the connection to a server is taken
+abbrev pub without_wish : ℕ → ClientState → ClientState
+without_wish server c = if is_server server c then with_link server (link.wish_taken (link_of server c)) c else c
+
 -- ---- a client's life
 
 -- a client that begins dials
 abbrev pub new_client : ClientConfig → ClientState
 new_client config = dialled (idle_client config)
 
--- what may happen over whole messages: an event, or the end of one
+-- what may happen over whole messages: an event, or the end of one; or the wish for a server's connection is taken
 pub data Moment : Type 0 where
   Goes : Happening → Moment
   Ends : Moment
+  Takes : ℕ → Moment
 
 abbrev pub at_moment : Moment → ClientState → ClientDid
 at_moment (Goes h) c = after h c
 at_moment Ends c = nothing (dialled c)
+at_moment (Takes server) c = nothing (without_wish server c)
 
 unfoldable pub after_all : List Moment → ClientState → ClientDid
 after_all [] c = nothing c

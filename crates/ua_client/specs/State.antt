@@ -8,10 +8,11 @@ use Rattle.ua_channel.specs.State.{ChannelState, held_in, new_channel}
 use Rattle.ua_channel.specs.Sharing.{Ends, emptied_by, end_at, out_by, with_end}
 use Rattle.link_rules.specs.declared.notice.Wish.{Wish}
 use Rattle.link_rules.specs.declared.notice.Wish.TheVariants as wish
-use Rattle.link_rules.specs.Step.{wish_of, wish_taken}
+use Rattle.link_rules.specs.Step.{wish_of}
 use Rattle.client_rules.specs.declared.config.ClientConfig.{ClientConfig}
-use Rattle.client_rules.specs.State.{ClientState, is_server, link_of, servers_of, with_link}
+use Rattle.client_rules.specs.State.{ClientState, is_server, link_of, servers_of}
 use Rattle.client_rules.specs.Step.{ears, new_client}
+pub use Rattle.client_rules.specs.Step.{without_wish}
 
 -- the client is the hub behind its ends, of which each server has one from the beginning
 abbrev pub BytesState : Type 0
@@ -63,7 +64,3 @@ held_of server s = held_by (end_at server s.channels) server s
 -- what it wishes for the connection to a server
 abbrev pub wished : ℕ → ClientState → Wish
 wished server c = if is_server server c then wish_of (link_of server c) else wish.None
-
--- that is taken
-abbrev pub without_wish : ℕ → ClientState → ClientState
-without_wish server c = if is_server server c then with_link server (wish_taken (link_of server c)) c else c
