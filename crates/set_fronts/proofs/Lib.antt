@@ -1,3 +1,5 @@
+pub mod Plain
 pub mod Slots
 pub mod Sets
 pub mod Lines
+pub mod Numbers

@@ -1,239 +1,328 @@
--- One server of a set whose nodes note what they take and put.
-use Rattle.std.proofs.Common.{◌≡◌, ℕ, ◌+◌, ◌-◌, ◌^◌, min, Bool, true, cond, List, [], ◌∷◌, ◌++◌, Option, Some, None, is_some, refl, sym, ap, ap₂, subst, ◌∙◌, append_assoc}
+-- One server of a set whose nodes note what they take and put: its connections are those that the client made, and on each
+-- what one end took is a front of what the other put.
+use Rattle.std.proofs.Common.{◌≡◌, ℕ, suc, ◌+◌, ◌-◌, ◌^◌, ◌==◌, min, Bool, true, false, cond, List, [], ◌∷◌, ◌++◌, length, Option, Some, None, is_some, refl, sym, ap, subst, ◌∙◌, append_assoc, arith}
+use Rattle.std.proofs.lemmas.Bool.Decides.{nat_tests}
 use Rattle.std.proofs.lemmas.List.{append-nil}
 use Rattle.set_model.specs.declared.source.Change.{Change}
-use Rattle.message_ends.proofs.Lookups.{same_number}
 use Rattle.set_rules.specs.State.{Connection, Slot}
 use Rattle.set_rules.specs.Nodes.{Nodes}
-use Rattle.set_rules.specs.Moves.{is_left_by}
-use Rattle.set_rules.specs.Slots.{accepted, fed_all, happens, parted, served}
-use Rattle.set_fronts.specs.Noting.{Noted, begun_at, noted_at, noting}
-use Rattle.set_fronts.specs.Fronts.{Fronts, FrontsOn, SlotFronts}
+use Rattle.set_rules.specs.Slots.{accepted, fed_all, happens, parted, served, started, stopped}
+use Rattle.set_rules.specs.World.{Beginning}
+use Rattle.set_fronts.specs.Lives.{before}
+use Rattle.set_fronts.specs.Noting.{Accepted, NotedLife, Talked, changed_if, noted_life, nothing_talked, noting, on_last, on_newest, puts, takes}
+use Rattle.set_fronts.specs.Fronts.{AllMeet, AreCounted, AreEnds, AreFronts, AreNumbered, NewestStands, StandsOn, connections_of}
+
+-- ---- numbers
+
+pub same_number : (k : ℕ) → (k == k) ≡ true
+same_number k = grind (arith, nat_tests)
+
+next_least : (given count most : ℕ) → given ≡ min count most → min (given + 1) most ≡ min (count + 1) most
+next_least given count most is = omega (arith, is)
+
+one_more : (number count most : ℕ) → number ≡ min (count + 1) most → number ≡ min (suc count) most
+one_more number count most is = omega (arith, is)
+
+-- ---- connections
 
 module _ {A : Type 0} where
-  pub noted_here : (k : ℕ) (more : List A) (notes : ℕ → List A) → noted_at k more notes k ≡ notes k ++ more
-  noted_here k more notes = ap (λ b. cond b (notes k ++ more) (notes k)) (same_number k)
+  ends_of : (c : Connection (List A)) (dial : Talked A) (accepted : Accepted A) → StandsOn c dial accepted → AreEnds dial accepted
+  ends_of c dial accepted x = record { there = (c.there, x.there); back = (c.back, x.back) }
 
-  pub begun_here : (k : ℕ) (notes : ℕ → List A) → begun_at k notes k ≡ []
-  begun_here k notes = ap (λ b. cond b [] (notes k)) (same_number k)
+  changed_here : (number : ℕ) (change : Talked A → Talked A) (c : Accepted A) → c.number ≡ number → changed_if number change c ≡ record c { talked = change c.talked }
+  changed_here number change c is =
+      ap (λ b. cond b (record c { talked = change c.talked }) c) (ap (λ k. k == number) is ∙ same_number number)
 
--- an event of a node that takes and puts nothing
-pub record IsLift {N A : Type 0} (f : N → N) (g : Noted N A → Noted N A) : Type 0 where
-  pub node : (t : Noted N A) → (g t).node ≡ f t.node
-  pub taken : (t : Noted N A) → (g t).taken ≡ t.taken
-  pub put : (t : Noted N A) → (g t).put ≡ t.put
+  number_by : (b : Bool) (c : Accepted A) (t : Talked A) → (cond b (record c { talked = t }) c).number ≡ c.number
+  number_by true c t = refl
+  number_by false c t = refl
+
+  long_on : (number : ℕ) (change : Talked A → Talked A) (connections : List (Accepted A)) → length (on_newest number change connections) ≡ length connections
+  long_on number change [] = refl
+  long_on number change (c ∷ earlier) = refl
+
+  counted_on : (number : ℕ) (change : Talked A → Talked A) (connections : List (Accepted A)) → AreCounted connections → AreCounted (on_newest number change connections)
+  counted_on number change [] x = tt
+  counted_on number change (c ∷ earlier) x = (number_by (c.number == number) c (change c.talked) ∙ x.0, x.1)
+
+-- ---- a server
+
+module _ {S A : Type 0} where
+  -- a connection that stands, and all before it
+  pub record Stands (c : Connection (List A)) (connections : List (Accepted A)) (dials : List (Talked A)) (over : List (NotedLife S A)) : Type 0 where
+    pub dial : Talked A
+    pub earlier : List (Talked A)
+    pub accepted : Accepted A
+    pub others : List (Accepted A)
+    pub dials_are : dials ≡ dial ∷ earlier
+    pub connections_are : connections ≡ accepted ∷ others
+    pub ends : StandsOn c dial accepted
+    pub rest : AllMeet earlier (others ++ connections_of over)
+
+  -- the numbers of a life that runs, and of those before it
+  pub record Runs (boot given : ℕ) (life : NotedLife S A) (over : List (NotedLife S A)) : Type 0 where
+    pub number : life.boot ≡ min (length over + 1) (2 ^ 16 - 1)
+    pub counted : AreCounted life.connections
+    pub numbered : AreNumbered over
+    pub boot_is : boot ≡ min (length over + 1) (2 ^ 16 - 1)
+    pub given_is : given ≡ min (length life.connections) (2 ^ 32 - 1)
+
+  -- of lives that are all over
+  pub record AreOver (boot : ℕ) (dials : List (Talked A)) (over : List (NotedLife S A)) : Type 0 where
+    pub meet : AllMeet dials (connections_of over)
+    pub numbered : AreNumbered over
+    pub boot_is : boot ≡ min (length over) (2 ^ 16 - 1)
+
+  -- a server's numbers, life and connection, the client's connections to it, and its lives that are over
+  abbrev pub Fits : ℕ → ℕ → Option (NotedLife S A) → Option (Connection (List A)) → List (Talked A) → List (NotedLife S A) → Type 0
+  Fits boot given None None dials over = AreOver boot dials over
+  Fits boot given None (Some c) dials over = ⊥
+  Fits boot given (Some t) None dials over = AllMeet dials (t.connections ++ connections_of over) × Runs boot given t over
+  Fits boot given (Some t) (Some c) dials over = Stands c t.connections dials over × Runs boot given t over
+
+  abbrev pub FitsSlot : Slot (NotedLife S A) (List A) → List (Talked A) → List (NotedLife S A) → Type 0
+  FitsSlot z dials over = Fits z.boot z.given z.life z.connection dials over
+
+  -- an event of a life that takes and puts nothing
+  pub record IsQuiet (g : NotedLife S A → NotedLife S A) : Type 0 where
+    pub boot : (t : NotedLife S A) → (g t).boot ≡ t.boot
+    pub connections : (t : NotedLife S A) → (g t).connections ≡ t.connections
+
+  runs_on : (boot given : ℕ) (t u : NotedLife S A) (over : List (NotedLife S A)) → u.boot ≡ t.boot → length u.connections ≡ length t.connections
+      → AreCounted u.connections → Runs boot given t over → Runs boot given u over
+  runs_on boot given t u over same long counted x = record {
+    number = same ∙ x.number;
+    counted = counted;
+    numbered = x.numbered;
+    boot_is = x.boot_is;
+    given_is = x.given_is ∙ ap (λ k. min k (2 ^ 32 - 1)) (sym long);
+  }
+
+  runs_quietly : (g : NotedLife S A → NotedLife S A) (boot given : ℕ) (t : NotedLife S A) (over : List (NotedLife S A)) → IsQuiet g
+      → Runs boot given t over → Runs boot given (g t) over
+  runs_quietly g boot given t over is x =
+      runs_on boot given t (g t) over (is.boot t) (ap length (is.connections t)) (subst AreCounted (sym (is.connections t)) x.counted) x
+
+  -- ---- what the lives that are over leave
+
+  meet_of : (c : Connection (List A)) (connections : List (Accepted A)) (dials : List (Talked A)) (over : List (NotedLife S A)) → Stands c connections dials over
+      → AllMeet dials (connections ++ connections_of over)
+  meet_of c connections dials over x =
+      subst (λ l. AllMeet l (connections ++ connections_of over)) (sym x.dials_are)
+      (subst (λ l. AllMeet (x.dial ∷ x.earlier) (l ++ connections_of over)) (sym x.connections_are)
+      (ends_of c x.dial x.accepted x.ends, x.rest))
+
+  ends_with : (boot given : ℕ) (t : NotedLife S A) (dials : List (Talked A)) (over : List (NotedLife S A)) → AllMeet dials (t.connections ++ connections_of over)
+      → Runs boot given t over → AreOver boot dials (t ∷ over)
+  ends_with boot given t dials over meet x = record {
+    meet = meet;
+    numbered = (x.number, x.counted, x.numbered);
+    boot_is = one_more boot (length over) (2 ^ 16 - 1) x.boot_is;
+  }
+
+  all_over : (boot given : ℕ) (life : Option (NotedLife S A)) (c : Option (Connection (List A))) (dials : List (Talked A)) (over : List (NotedLife S A))
+      → Fits boot given life c dials over → AreOver boot dials (before life over)
+  all_over boot given None None dials over x = x
+  all_over boot given None (Some c) dials over x = absurd x
+  all_over boot given (Some t) None dials over x = ends_with boot given t dials over x.0 x.1
+  all_over boot given (Some t) (Some c) dials over x = ends_with boot given t dials over (meet_of c t.connections dials over x.0) x.1
+
+  pub stopped_fits : (z : Slot (NotedLife S A) (List A)) (dials : List (Talked A)) (over : List (NotedLife S A)) → FitsSlot z dials over
+      → FitsSlot (stopped z) dials (before z.life over)
+  stopped_fits z dials over x = all_over z.boot z.given z.life z.connection dials over x
+
+  pub started_fits : (begins : Beginning S) (number position : ℕ) (current : List Change) (z : Slot (NotedLife S A) (List A)) (dials : List (Talked A)) (over : List (NotedLife S A))
+      → FitsSlot z dials over → FitsSlot (started (noted_life begins number (min (z.boot + 1) (2 ^ 16 - 1)) current) position z) dials (before z.life over)
+  started_fits begins number position current z dials over x =
+      let y = all_over z.boot z.given z.life z.connection dials over x in
+      let next = next_least z.boot (length (before z.life over)) (2 ^ 16 - 1) y.boot_is in
+      (y.meet, record { number = next; counted = tt; numbered = y.numbered; boot_is = next; given_is = refl })
+
+  newest : (boot given : ℕ) (life : Option (NotedLife S A)) (c : Option (Connection (List A))) (dials : List (Talked A)) (over : List (NotedLife S A))
+      → Fits boot given life c dials over → NewestStands c dials life
+  newest boot given life None dials over x = tt
+  newest boot given None (Some c) dials over x = absurd x
+  newest boot given (Some t) (Some c) dials over x = let y = x.0 in
+      (y.dial, y.earlier, y.accepted, y.others, y.dials_are, y.connections_are, y.ends)
+
+  pub fronts_of : (z : Slot (NotedLife S A) (List A)) (dials : List (Talked A)) (over : List (NotedLife S A)) → FitsSlot z dials over → AreFronts z dials over
+  fronts_of z dials over x = let y = all_over z.boot z.given z.life z.connection dials over x in
+      record { meet = y.meet; stands = newest z.boot z.given z.life z.connection dials over x; numbered = y.numbered }
 
 module _ {S C A : Type 0} (n : Nodes S C (List A)) (none : n.nothing ≡ []) (joins : (x y : List A) → n.joined x y ≡ x ++ y) where
-  collect_on : (P T : List A) (t : Noted S A) (c : Connection (List A)) → P ≡ t.taken c.number ++ c.there → t.put c.number ≡ T ++ c.back
-      → FrontsOn P T (n.emptied c.number t.node) ((noting n).emptied c.number t)
-      (record c { back = n.joined c.back (n.answered c.number t.node) }) (record c { back = n.joined c.back (n.answered c.number t.node) })
-  collect_on P T t c there back = let more = n.answered c.number t.node in record {
-    node = refl;
-    same = refl;
-    there = there;
-    back = noted_here c.number more t.put ∙ ap (λ (l : List A). l ++ more) back ∙ append_assoc T c.back more ∙ ap (λ (l : List A). T ++ l) (sym (joins c.back more));
+  abbrev pub Life : Type 0
+  Life = NotedLife S A
+
+  -- ---- each end puts and takes
+
+  stands_put : (more : List A) (c : Connection (List A)) (connections : List (Accepted A)) (dials : List (Talked A)) (over : List Life) → Stands c connections dials over
+      → Stands (record c { back = n.joined c.back more }) (on_newest c.number (puts more) connections) dials over
+  stands_put more c connections dials over x = record {
+    dial = x.dial;
+    earlier = x.earlier;
+    accepted = record x.accepted { talked = puts more x.accepted.talked };
+    others = x.others;
+    dials_are = x.dials_are;
+    connections_are = ap (on_newest c.number (puts more)) x.connections_are ∙ ap (λ (k : Accepted A). k ∷ x.others) (changed_here c.number (puts more) x.accepted x.ends.number);
+    ends = record {
+      number = x.ends.number;
+      there = x.ends.there;
+      back = ap (λ (l : List A). l ++ more) x.ends.back ∙ append_assoc x.dial.taken c.back more ∙ ap (λ (l : List A). x.dial.taken ++ l) (sym (joins c.back more));
+    };
+    rest = x.rest;
   }
 
-  collect : (P T : List A) (s : S) (t : Noted S A) (c d : Connection (List A)) → FrontsOn P T s t c d
-      → FrontsOn P T (n.emptied c.number s) ((noting n).emptied d.number t)
-      (record c { back = n.joined c.back (n.answered c.number s) }) (record d { back = n.joined d.back (n.answered d.number t.node) })
-  collect P T s t c d x =
-      subst (λ (y : S). FrontsOn P T (n.emptied c.number y) ((noting n).emptied d.number t)
-      (record c { back = n.joined c.back (n.answered c.number y) }) (record d { back = n.joined d.back (n.answered d.number t.node) })) (sym x.node)
-      (subst (λ (y : Connection (List A)). FrontsOn P T (n.emptied c.number t.node) ((noting n).emptied y.number t)
-      (record c { back = n.joined c.back (n.answered c.number t.node) }) (record y { back = n.joined y.back (n.answered y.number t.node) })) x.same
-      (collect_on P T t c x.there x.back))
+  -- all of it came
+  arrived : (l taken flight : List A) → l ≡ taken ++ flight → l ≡ (taken ++ flight) ++ n.nothing
+  arrived l taken flight is = is ∙ sym (append-nil (taken ++ flight)) ∙ ap (λ (k : List A). (taken ++ flight) ++ k) (sym none)
 
-  goes_on : (P T : List A) (f : S → S) (g : Noted S A → Noted S A) (s : S) (t : Noted S A) (c d : Connection (List A)) → IsLift f g → FrontsOn P T s t c d
-      → FrontsOn P T (f s) (g t) c d
-  goes_on P T f g s t c d is x = record {
-    node = ap f x.node ∙ sym (is.node t);
-    same = x.same;
-    there = x.there ∙ ap (λ (k : ℕ → List A). k c.number ++ c.there) (sym (is.taken t));
-    back = ap (λ (k : ℕ → List A). k c.number) (is.put t) ∙ x.back;
+  stands_heard : (c : Connection (List A)) (connections : List (Accepted A)) (dials : List (Talked A)) (over : List Life) → Stands c connections dials over
+      → Stands (record c { there = n.nothing }) (on_newest c.number (takes c.there) connections) dials over
+  stands_heard c connections dials over x = record {
+    dial = x.dial;
+    earlier = x.earlier;
+    accepted = record x.accepted { talked = takes c.there x.accepted.talked };
+    others = x.others;
+    dials_are = x.dials_are;
+    connections_are = ap (on_newest c.number (takes c.there)) x.connections_are
+        ∙ ap (λ (k : Accepted A). k ∷ x.others) (changed_here c.number (takes c.there) x.accepted x.ends.number);
+    ends = record { number = x.ends.number; there = arrived x.dial.put x.accepted.talked.taken c.there x.ends.there; back = x.ends.back };
+    rest = x.rest;
   }
 
-  module _ (P T : List A) where
-    happens_in : (f : S → S) (g : Noted S A → Noted S A) (boot position given : ℕ) (held : Bool) (life : Option S) (talk : Option (Noted S A)) (c d : Option (Connection (List A)))
-        → IsLift f g → Fronts P T life talk c d
-        → SlotFronts P T (happens n f (record { boot = boot; life = life; position = position; held = held; given = given; connection = c }))
-        (happens (noting n) g (record { boot = boot; life = talk; position = position; held = held; given = given; connection = d }))
-    happens_in f g boot position given held None None None None is s = record { boot = refl; position = refl; held = refl; given = refl; fronts = s }
-    happens_in f g boot position given held None None None (Some d) is s = absurd s
-    happens_in f g boot position given held None None (Some c) d is s = absurd s
-    happens_in f g boot position given held None (Some t) c d is s = absurd s
-    happens_in f g boot position given held (Some r) None c d is s = absurd s
-    happens_in f g boot position given held (Some r) (Some t) None None is s =
-        record { boot = refl; position = refl; held = refl; given = refl; fronts = ap f s ∙ sym (is.node t) }
-    happens_in f g boot position given held (Some r) (Some t) None (Some d) is s = absurd s
-    happens_in f g boot position given held (Some r) (Some t) (Some c) None is s = absurd s
-    happens_in f g boot position given held (Some r) (Some t) (Some c) (Some d) is s =
-        record { boot = refl; position = refl; held = refl; given = refl; fronts = collect P T (f r) (g t) c d (goes_on P T f g r t c d is s) }
+  stands_asked : (more : List A) (c : Connection (List A)) (connections : List (Accepted A)) (dials : List (Talked A)) (over : List Life) → Stands c connections dials over
+      → Stands (record c { there = n.joined c.there more }) connections (on_last (puts more) dials) over
+  stands_asked more c connections dials over x = record {
+    dial = puts more x.dial;
+    earlier = x.earlier;
+    accepted = x.accepted;
+    others = x.others;
+    dials_are = ap (on_last (puts more)) x.dials_are;
+    connections_are = x.connections_are;
+    ends = record {
+      number = x.ends.number;
+      there = ap (λ (l : List A). l ++ more) x.ends.there ∙ append_assoc x.accepted.talked.taken c.there more
+          ∙ ap (λ (l : List A). x.accepted.talked.taken ++ l) (sym (joins c.there more));
+      back = x.ends.back;
+    };
+    rest = x.rest;
+  }
 
-    with_parts : (s : Slot S (List A)) (z : Slot (Noted S A) (List A)) (F : Slot S (List A) → Slot S (List A)) (G : Slot (Noted S A) (List A) → Slot (Noted S A) (List A))
-        → SlotFronts P T s z → SlotFronts P T (F s) (G (record z { boot = s.boot; position = s.position; held = s.held; given = s.given })) → SlotFronts P T (F s) (G z)
-    with_parts s z F G x y =
-        subst (λ k. SlotFronts P T (F s) (G (record z { boot = k }))) x.boot
-        (subst (λ k. SlotFronts P T (F s) (G (record z { boot = s.boot; position = k }))) x.position
-        (subst (λ k. SlotFronts P T (F s) (G (record z { boot = s.boot; position = s.position; held = k }))) x.held
-        (subst (λ k. SlotFronts P T (F s) (G (record z { boot = s.boot; position = s.position; held = s.held; given = k }))) x.given y)))
+  stands_learned : (c : Connection (List A)) (connections : List (Accepted A)) (dials : List (Talked A)) (over : List Life) → Stands c connections dials over
+      → Stands (record c { back = n.nothing }) connections (on_last (takes c.back) dials) over
+  stands_learned c connections dials over x = record {
+    dial = takes c.back x.dial;
+    earlier = x.earlier;
+    accepted = x.accepted;
+    others = x.others;
+    dials_are = ap (on_last (takes c.back)) x.dials_are;
+    connections_are = x.connections_are;
+    ends = record { number = x.ends.number; there = x.ends.there; back = arrived x.accepted.talked.put x.dial.taken c.back x.ends.back };
+    rest = x.rest;
+  }
 
-    pub happens_keeps : (f : S → S) (g : Noted S A → Noted S A) (s : Slot S (List A)) (z : Slot (Noted S A) (List A)) → IsLift f g → SlotFronts P T s z
-        → SlotFronts P T (happens n f s) (happens (noting n) g z)
-    happens_keeps f g s z is x =
-        with_parts s z (happens n f) (happens (noting n) g) x (happens_in f g s.boot s.position s.given s.held s.life z.life s.connection z.connection is x.fronts)
+  pub asked_fits : (more : List A) (boot given : ℕ) (life : Option Life) (c : Connection (List A)) (dials : List (Talked A)) (over : List Life)
+      → Fits boot given life (Some c) dials over → Fits boot given life (Some (record c { there = n.joined c.there more })) (on_last (puts more) dials) over
+  asked_fits more boot given None c dials over x = absurd x
+  asked_fits more boot given (Some t) c dials over x = (stands_asked more c t.connections dials over x.0, x.1)
 
-    pub fed_keeps : (changes : List Change) (s : Slot S (List A)) (z : Slot (Noted S A) (List A)) → SlotFronts P T s z
-        → SlotFronts P T (fed_all n changes s) (fed_all (noting n) changes z)
-    fed_keeps [] s z x = x
-    fed_keeps (change ∷ changes) s z x =
-        fed_keeps changes (happens n (n.feeds change) s) (happens (noting n) ((noting n).feeds change) z)
-        (happens_keeps (n.feeds change) ((noting n).feeds change) s z (record { node = λ t. refl; taken = λ t. refl; put = λ t. refl }) x)
+  pub learned_fits : (boot given : ℕ) (life : Option Life) (c : Connection (List A)) (dials : List (Talked A)) (over : List Life)
+      → Fits boot given life (Some c) dials over → Fits boot given life (Some (record c { back = n.nothing })) (on_last (takes c.back) dials) over
+  learned_fits boot given None c dials over x = absurd x
+  learned_fits boot given (Some t) c dials over x = (stands_learned c t.connections dials over x.0, x.1)
 
-    -- ---- what is in flight to the server comes
+  collect : (boot given : ℕ) (t : Life) (c : Connection (List A)) (dials : List (Talked A)) (over : List Life) → Fits boot given (Some t) (Some c) dials over
+      → Fits boot given (Some ((noting n).emptied c.number t)) (Some (record c { back = n.joined c.back (n.answered c.number t.node) })) dials over
+  collect boot given t c dials over x = let more = n.answered c.number t.node in (
+    stands_put more c t.connections dials over x.0,
+    runs_on boot given t ((noting n).emptied c.number t) over refl (long_on c.number (puts more) t.connections) (counted_on c.number (puts more) t.connections x.1.counted) x.1,
+  )
 
-    comes_on : (t : Noted S A) (c : Connection (List A)) → P ≡ t.taken c.number ++ c.there → t.put c.number ≡ T ++ c.back
-        → FrontsOn P T (n.hears c.number c.there t.node) ((noting n).hears c.number c.there t) (record c { there = n.nothing }) (record c { there = n.nothing })
-    comes_on t c there back = record {
-      node = refl;
-      same = refl;
-      there = there ∙ sym (noted_here c.number c.there t.taken) ∙ sym (append-nil (noted_at c.number c.there t.taken c.number))
-          ∙ ap (λ (l : List A). noted_at c.number c.there t.taken c.number ++ l) (sym none);
-      back = back;
-    }
+  -- ---- what happens to a server
 
-    comes : (s : S) (t : Noted S A) (c d : Connection (List A)) → FrontsOn P T s t c d
-        → FrontsOn P T (n.hears c.number c.there s) ((noting n).hears d.number d.there t) (record c { there = n.nothing }) (record d { there = n.nothing })
-    comes s t c d x =
-        subst (λ (y : S). FrontsOn P T (n.hears c.number c.there y) ((noting n).hears d.number d.there t) (record c { there = n.nothing }) (record d { there = n.nothing })) (sym x.node)
-        (subst (λ (y : Connection (List A)). FrontsOn P T (n.hears c.number c.there t.node) ((noting n).hears y.number y.there t) (record c { there = n.nothing }) (record y { there = n.nothing })) x.same
-        (comes_on t c x.there x.back))
+  module _ (dials : List (Talked A)) (over : List Life) where
+    happens_in : (g : Life → Life) → IsQuiet g → (boot position given : ℕ) (held : Bool) (life : Option Life) (c : Option (Connection (List A))) → Fits boot given life c dials over
+        → FitsSlot (happens (noting n) g (record { boot = boot; life = life; position = position; held = held; given = given; connection = c })) dials over
+    happens_in g is boot position given held None None x = x
+    happens_in g is boot position given held None (Some c) x = absurd x
+    happens_in g is boot position given held (Some t) None x =
+        (subst (λ (l : List (Accepted A)). AllMeet dials (l ++ connections_of over)) (sym (is.connections t)) x.0, runs_quietly g boot given t over is x.1)
+    happens_in g is boot position given held (Some t) (Some c) x =
+        collect boot given (g t) c dials over
+        (subst (λ (l : List (Accepted A)). Stands c l dials over) (sym (is.connections t)) x.0, runs_quietly g boot given t over is x.1)
 
-    served_in : (boot position given : ℕ) (held : Bool) (life : Option S) (talk : Option (Noted S A)) (c d : Option (Connection (List A))) → Fronts P T life talk c d
-        → SlotFronts P T (served n (record { boot = boot; life = life; position = position; held = held; given = given; connection = c }))
-        (served (noting n) (record { boot = boot; life = talk; position = position; held = held; given = given; connection = d }))
-    served_in boot position given held None None None None s = record { boot = refl; position = refl; held = refl; given = refl; fronts = s }
-    served_in boot position given held None None None (Some d) s = absurd s
-    served_in boot position given held None None (Some c) d s = absurd s
-    served_in boot position given held None (Some t) c d s = absurd s
-    served_in boot position given held (Some r) None c d s = absurd s
-    served_in boot position given held (Some r) (Some t) None None s = record { boot = refl; position = refl; held = refl; given = refl; fronts = s }
-    served_in boot position given held (Some r) (Some t) None (Some d) s = absurd s
-    served_in boot position given held (Some r) (Some t) (Some c) None s = absurd s
-    served_in boot position given held (Some r) (Some t) (Some c) (Some d) s = record {
-      boot = refl;
-      position = refl;
-      held = refl;
-      given = refl;
-      fronts = collect P T (n.hears c.number c.there r) ((noting n).hears d.number d.there t) (record c { there = n.nothing }) (record d { there = n.nothing }) (comes r t c d s);
-    }
+    pub happens_fits : (g : Life → Life) → IsQuiet g → (z : Slot Life (List A)) → FitsSlot z dials over → FitsSlot (happens (noting n) g z) dials over
+    happens_fits g is z x = happens_in g is z.boot z.position z.given z.held z.life z.connection x
 
-    pub served_keeps : (s : Slot S (List A)) (z : Slot (Noted S A) (List A)) → SlotFronts P T s z → SlotFronts P T (served n s) (served (noting n) z)
-    served_keeps s z x =
-        with_parts s z (served n) (served (noting n)) x (served_in s.boot s.position s.given s.held s.life z.life s.connection z.connection x.fronts)
+    pub fed_fits : (changes : List Change) (z : Slot Life (List A)) → FitsSlot z dials over → FitsSlot (fed_all (noting n) changes z) dials over
+    fed_fits [] z x = x
+    fed_fits (change ∷ changes) z x =
+        fed_fits changes (happens (noting n) ((noting n).feeds change) z)
+        (happens_fits ((noting n).feeds change) (record { boot = λ t. refl; connections = λ t. refl }) z x)
 
-    -- ---- connections end and begin
+    served_in : (boot position given : ℕ) (held : Bool) (life : Option Life) (c : Option (Connection (List A))) → Fits boot given life c dials over
+        → FitsSlot (served (noting n) (record { boot = boot; life = life; position = position; held = held; given = given; connection = c })) dials over
+    served_in boot position given held life None x = x
+    served_in boot position given held None (Some c) x = absurd x
+    served_in boot position given held (Some t) (Some c) x =
+        collect boot given ((noting n).hears c.number c.there t) (record c { there = n.nothing }) dials over (
+          stands_heard c t.connections dials over x.0,
+          runs_on boot given t ((noting n).hears c.number c.there t) over refl (long_on c.number (takes c.there) t.connections)
+              (counted_on c.number (takes c.there) t.connections x.1.counted) x.1,
+        )
 
-    parted_in : (boot position given : ℕ) (held : Bool) (life : Option S) (talk : Option (Noted S A)) (c d : Option (Connection (List A))) → Fronts P T life talk c d
-        → SlotFronts P T (parted n (record { boot = boot; life = life; position = position; held = held; given = given; connection = c }))
-        (parted (noting n) (record { boot = boot; life = talk; position = position; held = held; given = given; connection = d }))
-    parted_in boot position given held None None None None s = record { boot = refl; position = refl; held = refl; given = refl; fronts = s }
-    parted_in boot position given held None None None (Some d) s = absurd s
-    parted_in boot position given held None None (Some c) d s = absurd s
-    parted_in boot position given held None (Some t) c d s = absurd s
-    parted_in boot position given held (Some r) None c d s = absurd s
-    parted_in boot position given held (Some r) (Some t) None None s = record { boot = refl; position = refl; held = refl; given = refl; fronts = s }
-    parted_in boot position given held (Some r) (Some t) None (Some d) s = absurd s
-    parted_in boot position given held (Some r) (Some t) (Some c) None s = absurd s
-    parted_in boot position given held (Some r) (Some t) (Some c) (Some d) s = record {
-      boot = refl;
-      position = refl;
-      held = refl;
-      given = refl;
-      fronts = ap (n.ends c.number) s.node ∙ ap (λ (y : Connection (List A)). n.ends y.number t.node) s.same;
-    }
+    pub served_fits : (z : Slot Life (List A)) → FitsSlot z dials over → FitsSlot (served (noting n) z) dials over
+    served_fits z x = served_in z.boot z.position z.given z.held z.life z.connection x
 
-    pub parted_keeps : (s : Slot S (List A)) (z : Slot (Noted S A) (List A)) → SlotFronts P T s z → SlotFronts P T (parted n s) (parted (noting n) z)
-    parted_keeps s z x =
-        with_parts s z (parted n) (parted (noting n)) x (parted_in s.boot s.position s.given s.held s.life z.life s.connection z.connection x.fronts)
+    parted_in : (boot position given : ℕ) (held : Bool) (life : Option Life) (c : Option (Connection (List A))) → Fits boot given life c dials over
+        → FitsSlot (parted (noting n) (record { boot = boot; life = life; position = position; held = held; given = given; connection = c })) dials over
+    parted_in boot position given held life None x = x
+    parted_in boot position given held None (Some c) x = absurd x
+    parted_in boot position given held (Some t) (Some c) x =
+        (meet_of c t.connections dials over x.0, runs_on boot given t ((noting n).ends c.number t) over refl refl x.1.counted x.1)
 
-    begins_on : (k : ℕ) (s : S) (t : Noted S A) → P ≡ [] → T ≡ [] → s ≡ t.node
-        → FrontsOn P T (n.accepts k s) ((noting n).accepts k t) (record { number = k; there = n.nothing; back = n.nothing }) (record { number = k; there = n.nothing; back = n.nothing })
-    begins_on k s t put taken same = record {
-      node = ap (n.accepts k) same;
-      same = refl;
-      there = put ∙ sym (ap₂ (λ (x y : List A). x ++ y) (begun_here k t.taken) none);
-      back = begun_here k t.put ∙ sym (ap₂ (λ (x y : List A). x ++ y) taken none);
-    }
+    pub parted_fits : (z : Slot Life (List A)) → FitsSlot z dials over → FitsSlot (parted (noting n) z) dials over
+    parted_fits z x = parted_in z.boot z.position z.given z.held z.life z.connection x
 
-    accepted_in : (boot position given : ℕ) (held : Bool) (life : Option S) (talk : Option (Noted S A)) (c d : Option (Connection (List A))) → P ≡ [] → T ≡ [] → c ≡ None → is_some life ≡ true
-        → Fronts P T life talk c d
-        → SlotFronts P T (accepted n (record { boot = boot; life = life; position = position; held = held; given = given; connection = c }))
-        (accepted (noting n) (record { boot = boot; life = talk; position = position; held = held; given = given; connection = d }))
-    accepted_in boot position given held None talk c d put taken free runs s = absurd cc
-    accepted_in boot position given held (Some r) None c d put taken free runs s = absurd s
-    accepted_in boot position given held (Some r) (Some t) (Some c) d put taken free runs s = absurd cc
-    accepted_in boot position given held (Some r) (Some t) None (Some d) put taken free runs s = absurd s
-    accepted_in boot position given held (Some r) (Some t) None None put taken free runs s = let k = min (given + 1) (2 ^ 32 - 1) in record {
-      boot = refl;
-      position = refl;
-      held = refl;
-      given = refl;
-      fronts = collect P T (n.accepts k r) ((noting n).accepts k t) (record { number = k; there = n.nothing; back = n.nothing }) (record { number = k; there = n.nothing; back = n.nothing })
-          (begins_on k r t put taken s);
-    }
+    -- ---- a connection begins
 
-    pub accepted_keeps : (s : Slot S (List A)) (z : Slot (Noted S A) (List A)) → P ≡ [] → T ≡ [] → s.connection ≡ None → is_some s.life ≡ true → SlotFronts P T s z
-        → SlotFronts P T (accepted n s) (accepted (noting n) z)
-    accepted_keeps s z put taken free runs x =
-        with_parts s z (accepted n) (accepted (noting n)) x (accepted_in s.boot s.position s.given s.held s.life z.life s.connection z.connection put taken free runs x.fronts)
+    begins_on : (boot given : ℕ) (t : Life) → Fits boot given (Some t) None dials over
+        → Fits boot (min (given + 1) (2 ^ 32 - 1)) (Some ((noting n).accepts (min (given + 1) (2 ^ 32 - 1)) t))
+        (Some (record { number = min (given + 1) (2 ^ 32 - 1); there = n.nothing; back = n.nothing })) (nothing_talked ∷ dials) over
+    begins_on boot given t x =
+        let next = next_least given (length t.connections) (2 ^ 32 - 1) x.1.given_is in (
+          record {
+            dial = nothing_talked;
+            earlier = dials;
+            accepted = record { number = min (given + 1) (2 ^ 32 - 1); talked = nothing_talked };
+            others = t.connections;
+            dials_are = refl;
+            connections_are = refl;
+            ends = record { number = refl; there = sym none; back = sym none };
+            rest = x.0;
+          },
+          record {
+            number = x.1.number;
+            counted = (next, x.1.counted);
+            numbered = x.1.numbered;
+            boot_is = x.1.boot_is;
+            given_is = one_more (min (given + 1) (2 ^ 32 - 1)) (length t.connections) (2 ^ 32 - 1) next;
+          },
+        )
 
-    -- ---- what is seen of a slot
+    accepted_in : (boot position given : ℕ) (held : Bool) (t : Life) → Fits boot given (Some t) None dials over
+        → FitsSlot (accepted (noting n) (record { boot = boot; life = Some t; position = position; held = held; given = given; connection = None })) (nothing_talked ∷ dials) over
+    accepted_in boot position given held t x = let k = min (given + 1) (2 ^ 32 - 1) in
+        collect boot k ((noting n).accepts k t) (record { number = k; there = n.nothing; back = n.nothing }) (nothing_talked ∷ dials) over (begins_on boot given t x)
 
-    pub same_connection : (life : Option S) (talk : Option (Noted S A)) (c d : Option (Connection (List A))) → Fronts P T life talk c d → c ≡ d
-    same_connection None None None None s = refl
-    same_connection None None None (Some d) s = absurd s
-    same_connection None None (Some c) d s = absurd s
-    same_connection None (Some t) c d s = absurd s
-    same_connection (Some r) None c d s = absurd s
-    same_connection (Some r) (Some t) None None s = refl
-    same_connection (Some r) (Some t) None (Some d) s = absurd s
-    same_connection (Some r) (Some t) (Some c) None s = absurd s
-    same_connection (Some r) (Some t) (Some c) (Some d) s = ap (λ (y : Connection (List A)). Some y) s.same
+    dialled_in : (boot position given : ℕ) (held : Bool) (life : Option Life) (c : Option (Connection (List A))) → is_some life ≡ true → Fits boot given life c dials over
+        → FitsSlot (accepted (noting n) (parted (noting n) (record { boot = boot; life = life; position = position; held = held; given = given; connection = c })))
+        (nothing_talked ∷ dials) over
+    dialled_in boot position given held None c runs x = absurd cc
+    dialled_in boot position given held (Some t) None runs x = accepted_in boot position given held t x
+    dialled_in boot position given held (Some t) (Some c) runs x =
+        accepted_in boot position given held ((noting n).ends c.number t) (parted_in boot position given held (Some t) (Some c) x)
 
-    pub same_life : (life : Option S) (talk : Option (Noted S A)) (c d : Option (Connection (List A))) → Fronts P T life talk c d → is_some life ≡ is_some talk
-    same_life None None c d s = refl
-    same_life None (Some t) c d s = absurd s
-    same_life (Some r) None c d s = absurd s
-    same_life (Some r) (Some t) c d s = refl
-
-    pub left_same : (life : Option S) (talk : Option (Noted S A)) (c d : Option (Connection (List A))) → Fronts P T life talk c d → is_left_by n life c ≡ is_left_by (noting n) talk d
-    left_same None None None None s = refl
-    left_same None None None (Some d) s = absurd s
-    left_same None None (Some c) d s = absurd s
-    left_same None (Some t) c d s = absurd s
-    left_same (Some r) None c d s = absurd s
-    left_same (Some r) (Some t) None None s = refl
-    left_same (Some r) (Some t) None (Some d) s = absurd s
-    left_same (Some r) (Some t) (Some c) None s = absurd s
-    left_same (Some r) (Some t) (Some c) (Some d) s = ap (n.is_closing c.number) s.node ∙ ap (λ (y : Connection (List A)). n.is_closing y.number t.node) s.same
-
--- without a connection the client's notes don't matter
-pub alone : {S A : Type 0} (P T Q U : List A) (life : Option S) (talk : Option (Noted S A)) (c d : Option (Connection (List A))) → c ≡ None → Fronts P T life talk c d → Fronts Q U life talk c d
-alone P T Q U None None None None free s = tt
-alone P T Q U None None None (Some d) free s = s
-alone P T Q U None None (Some c) d free s = s
-alone P T Q U None (Some t) c d free s = s
-alone P T Q U (Some r) None c d free s = s
-alone P T Q U (Some r) (Some t) None None free s = s
-alone P T Q U (Some r) (Some t) None (Some d) free s = s
-alone P T Q U (Some r) (Some t) (Some c) d free s = absurd cc
-
-pub slot_alone : {S A : Type 0} (P T Q U : List A) (s : Slot S (List A)) (z : Slot (Noted S A) (List A)) → s.connection ≡ None → SlotFronts P T s z → SlotFronts Q U s z
-slot_alone P T Q U s z free x = record {
-  boot = x.boot;
-  position = x.position;
-  held = x.held;
-  given = x.given;
-  fronts = alone P T Q U s.life z.life s.connection z.connection free x.fronts;
-}
+    pub dialled_fits : (z : Slot Life (List A)) → is_some z.life ≡ true → FitsSlot z dials over
+        → FitsSlot (accepted (noting n) (parted (noting n) z)) (nothing_talked ∷ dials) over
+    dialled_fits z runs x = dialled_in z.boot z.position z.given z.held z.life z.connection runs x

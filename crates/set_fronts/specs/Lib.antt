@@ -1,2 +1,4 @@
 pub mod Noting
+pub mod Lives
 pub mod Fronts
+pub mod Numbers

@@ -4,4 +4,4 @@
 
 mod laws;
 
-pub use laws::what_is_put_is_taken_or_in_flight;
+pub use laws::{lives_have_numbers_of_their_own, notes_change_nothing, what_is_taken_was_put};

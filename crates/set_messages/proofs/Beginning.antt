@@ -1,5 +1,5 @@
 -- A set that begins, and its servers' lives: over messages they show what they are over bytes.
-use Rattle.std.proofs.Common.{◌≡◌, ◌≢◌, ◌⊎◌, inl, inr, ◌==◌, reverse, ℕ, zero, suc, ◌+◌, ◌^◌, ◌≤◌, ◌<◌, pos, Bool, true, false, cond, List, [], ◌∷◌, ◌++◌, length, codes, Option, Some, None, IfSome, slice_index_or, refl, sym, ap, subst, ◌∙◌, arith, FitsSigned}
+use Rattle.std.proofs.Common.{◌≡◌, ◌==◌, reverse, ℕ, zero, suc, ◌+◌, ◌^◌, ◌≤◌, ◌<◌, pos, Bool, true, false, cond, List, [], ◌∷◌, ◌++◌, length, codes, Option, Some, None, IfSome, refl, sym, subst, arith, FitsSigned}
 use Rattle.std.proofs.lemmas.Fmt.{length-decimal-le}
 use Rattle.std.proofs.lemmas.List.{length-append, reverse-append}
 use Rattle.std.specs.Fmt.{decimal}
@@ -12,11 +12,8 @@ use Rattle.set_model.specs.declared.source.Change.{Change}
 use Rattle.set_model.specs.Source.{last_of}
 use Rattle.client_keeps.specs.Fitting as client_keeps
 use Rattle.server_keeps.specs.Fitting.{FitsChange, FitsConfig, KeepsMember}
-use Rattle.set_rules.specs.Moves.{no_slot}
-use Rattle.set_rules.specs.Slots.{current_of, currents, new_slot}
-use Rattle.set_rules.specs.World.{Beginning, new_slots}
+use Rattle.set_rules.specs.Slots.{current_of, currents}
 use Rattle.set_world.specs.Texts.{client_config, member, members, server_config, support_of, uri_text, url_text, urls}
-use Rattle.set_messages.proofs.Sets.{here_or_not}
 
 -- ---- short texts
 
@@ -126,43 +123,3 @@ unfolding currents
 currents_fit zero source all = tt
 currents_fit (suc count) source all =
     both_fit (currents count source) (current_of (last_of (count + 1) source)) (currents_fit count source all) (last_fits (count + 1) source all)
-
--- ---- the servers of a set that begins
-
-get_left : {A : Type 0} (xs : List A) (y : A) (i : ℕ) (d : A) → i + 1 ≤ length xs → slice_index_or (xs ++ y ∷ []) i d ≡ slice_index_or xs i d
-get_left [] y i d less = absurd (omega (arith, less))
-get_left (x ∷ xs) y zero d less = refl
-get_left (x ∷ xs) y (suc i) d less = get_left xs y i d (omega (arith, less))
-
-get_last : {A : Type 0} (xs : List A) (y : A) (i : ℕ) (d : A) → i ≡ length xs → slice_index_or (xs ++ y ∷ []) i d ≡ y
-get_last [] y zero d is = refl
-get_last [] y (suc i) d is = absurd (omega (arith, is))
-get_last (x ∷ xs) y zero d is = absurd (omega (arith, is))
-get_last (x ∷ xs) y (suc i) d is = get_last xs y i d (omega (arith, is))
-
-earlier : (place count : ℕ) → place + 1 ≤ suc count → place ≢ count → place + 1 ≤ count
-earlier place count less differ = omega (arith, less, differ)
-
-module _ {S : Type 0} (W : Type 0) (begins : Beginning S) where
-  pub slots_long : (count : ℕ) → length (new_slots {S = S} {W = W} begins count) ≡ count
-  unfolding new_slots
-  slots_long zero = refl
-  slots_long (suc count) =
-      let last = length-append (new_slots {S = S} {W = W} begins count) (new_slot (begins (count + 1) 1 []) ∷ []) in
-      let before = slots_long count in omega (arith, last, before)
-
-  new_by : (count place : ℕ) → place + 1 ≤ suc count → (place ≡ count) ⊎ (place ≢ count)
-      → (place + 1 ≤ count → slice_index_or (new_slots {S = S} {W = W} begins count) place no_slot ≡ new_slot (begins (place + 1) 1 []))
-      → slice_index_or (new_slots {S = S} {W = W} begins count ++ new_slot (begins (count + 1) 1 []) ∷ []) place no_slot ≡ new_slot (begins (place + 1) 1 [])
-  new_by count place less (inl same) before =
-      get_last (new_slots {S = S} {W = W} begins count) (new_slot (begins (count + 1) 1 [])) place no_slot (same ∙ sym (slots_long count))
-      ∙ ap (λ n. new_slot (begins (n + 1) 1 [])) (sym same)
-  new_by count place less (inr differ) before =
-      get_left (new_slots {S = S} {W = W} begins count) (new_slot (begins (count + 1) 1 [])) place no_slot
-      (subst (λ n. place + 1 ≤ n) (sym (slots_long count)) (earlier place count less differ))
-      ∙ before (earlier place count less differ)
-
-  pub slot_new : (count place : ℕ) → place + 1 ≤ count → slice_index_or (new_slots {S = S} {W = W} begins count) place no_slot ≡ new_slot (begins (place + 1) 1 [])
-  unfolding new_slots
-  slot_new zero place less = absurd (omega (arith, less))
-  slot_new (suc count) place less = new_by count place less (here_or_not (place == count) place count refl) (λ small. slot_new count place small)

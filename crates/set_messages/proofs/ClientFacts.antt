@@ -8,9 +8,9 @@ use Rattle.ua_channel.specs.Sharing.{emptied_by, end_at, taken_by}
 use Rattle.ua_channel.specs.declared.heard.Heard.{Heard}
 use Rattle.message_ends.specs.Ends.{MessageEnd}
 use Rattle.message_ends.specs.Talk.{out_of, without_out}
-use Rattle.message_ends.specs.Showing.{ShowsEnd}
+use Rattle.message_ends.specs.Showing.{ShowsEnd, firsts_with}
 use Rattle.message_ends.proofs.Lookups.{number_is}
-use Rattle.message_ends.proofs.Ordering.{firsts_with, taken as emptied}
+use Rattle.message_ends.proofs.Ordering.{taken as emptied}
 use Rattle.link_rules.specs.declared.notice.Wish.TheVariants as wish
 use Rattle.link_rules.specs.declared.phase.Phase.{Phase}
 use Rattle.link_rules.specs.declared.phase.Phase.TheVariants as phase

@@ -6,8 +6,7 @@ use Rattle.ua_channel.specs.State.{ChannelState}
 use Rattle.ua_channel.specs.Arriving.{Chain, Sent, bytes_of}
 use Rattle.ua_channel.specs.Sharing.{end_at}
 use Rattle.message_ends.specs.Talk.{out_of, without_out}
-use Rattle.message_ends.specs.Showing.{ExpectsIn}
-use Rattle.message_ends.proofs.Ordering.{firsts_with, next_in}
+use Rattle.message_ends.specs.Showing.{ExpectsIn, firsts_with, next_in}
 use Rattle.link_rules.specs.Opening.{begins_anew}
 use Rattle.link_rules.specs.declared.notice.Wish.TheVariants as wish
 use Rattle.server_rules.specs.declared.config.ServerConfig.{ServerConfig}

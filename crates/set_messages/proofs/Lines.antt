@@ -1,6 +1,5 @@
 -- Lines of a scenario: over messages a set shows what one over bytes does.
-use Rattle.std.proofs.Common.{◌≡◌, ℕ, zero, suc, ◌+◌, ◌-◌, ◌^◌, ◌≤◌, ◌<◌, ◌&&◌, min, nat_le, Bool, true, false, cond, List, [], ◌∷◌, ◌++◌, take, drop, length, Option, Some, None, refl, sym, ap, subst, arith}
-use Rattle.std.proofs.lemmas.Bool.Decides.{nat_tests}
+use Rattle.std.proofs.Common.{◌≡◌, ℕ, zero, suc, ◌+◌, ◌-◌, ◌^◌, ◌≤◌, ◌<◌, min, nat_le, Bool, true, false, cond, List, [], ◌∷◌, ◌++◌, take, drop, length, Option, Some, None, refl, sym, ap, subst, arith}
 use Rattle.std.specs.List.{AllByRecursion}
 use Rattle.set_model.specs.declared.source.Change.{Change}
 use Rattle.set_model.specs.declared.source.SourceFault.{SourceFault}
@@ -14,6 +13,7 @@ use Rattle.server_messages.specs.Showing.{ServerStands}
 use Rattle.set_rules.specs.Slots.{currents, fed, fed_with, happens, next_boot, started}
 use Rattle.set_rules.specs.Moves.{ended, halved, in_slot, lost, slot_at}
 use Rattle.set_rules.specs.World.{Beginning, after, after_all, at_place, at_server, begun}
+use Rattle.set_rules.proofs.Places.{place_within}
 use Rattle.set_world.specs.Bytes as bytes
 use Rattle.set_world.specs.State.{ByteSet}
 use Rattle.ua_client.specs.State as client
@@ -56,21 +56,6 @@ appended_if : (b : Bool) (change : Change) (source : List Change) → AllByRecur
     → AllByRecursion FitsChange (cond b (appended_unless (refusal source change) change source) source)
 appended_if true change source all one = appended_unless_fits (refusal source change) change source all one
 appended_if false change source all one = all
-
--- ---- numbers of servers
-
-within_by : (b : Bool) (number count place : ℕ) → (nat_le 1 number && nat_le number count) ≡ b → cond b (Some (number - 1)) None ≡ Some place → place + 1 ≤ count
-within_by true number count place is found = within number count place is (some_same (number - 1) place found)
-  where
-    some_same : (n k : ℕ) → Some n ≡ Some k → n ≡ k
-    some_same n k e = cc
-
-    within : (number count place : ℕ) → (nat_le 1 number && nat_le number count) ≡ true → number - 1 ≡ place → place + 1 ≤ count
-    within number count place is same = grind (arith, nat_tests)
-within_by false number count place is found = absurd cc
-
-pub place_within : (number count place : ℕ) → place_in number count ≡ Some place → place + 1 ≤ count
-place_within number count place found = within_by (nat_le 1 number && nat_le number count) number count place refl found
 
 module _ (Shows : (ℕ → ℕ) → client.BytesState → Client → Type 0) (sl : ServerLaws) (cl : ClientLaws Shows) where
   -- ---- feeds and levels

@@ -3,7 +3,7 @@ use Rattle.std.proofs.Common.{◌≡◌, ℕ, ◌+◌, ◌≤◌, Bool, true, co
 use Rattle.std.proofs.lemmas.List.{length-set}
 use Rattle.ua_channel.specs.State.{WireState}
 use Rattle.message_ends.proofs.Lookups.{same_number}
-use Rattle.message_ends.proofs.Ordering.{firsts_with}
+use Rattle.message_ends.specs.Showing.{firsts_with}
 use Rattle.link_rules.specs.Opening.{begins_anew}
 use Rattle.link_rules.specs.declared.notice.Wish.{Wish}
 use Rattle.link_rules.specs.declared.notice.Wish.TheVariants as wish
@@ -11,6 +11,7 @@ use Rattle.client_rules.specs.State.{ClientState, link_of}
 use Rattle.set_rules.specs.State.{Connection}
 use Rattle.set_rules.specs.Slots.{accepted, parted, served, stopped}
 use Rattle.set_rules.specs.Moves.{after_close, client_does, closed, dialled, dialled_by, ended, ended_by, halved, in_slot, lost, lost_by, slot_at, wish_taken, wished, wished_by, with_slot}
+use Rattle.set_rules.proofs.Places.{other_server, slot_here}
 use Rattle.set_world.specs.Bytes as bytes
 use Rattle.set_world.specs.State.{ByteSet}
 use Rattle.ua_client.specs.State as client
@@ -19,7 +20,7 @@ use Rattle.set_messages.specs.Nodes.{Client, Server, nodes}
 use Rattle.set_messages.specs.World.{MessageSet}
 use Rattle.set_messages.proofs.Facts.{ClientLaws, LinkExpects, LinkHolds, OthersStay, SameServers, ServerLaws}
 use Rattle.set_messages.proofs.Slots.{MessageSlot, Shown, accepted_shows, parted_shows, served_shows, slot_alone, slot_changes, stopped_shows}
-use Rattle.set_messages.proofs.Sets.{Changes, IsShown, SetShows, ShowsAt, both_change, client_changed, does, other_server, same_connection, slot_changed, slot_here}
+use Rattle.set_messages.proofs.Sets.{Changes, IsShown, SetShows, ShowsAt, both_change, client_changed, does, same_connection, slot_changed}
 
 -- ---- connections and lives by themselves
 

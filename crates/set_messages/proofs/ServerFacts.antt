@@ -7,7 +7,7 @@ use Rattle.ua_channel.specs.Arriving.{Chain, Sent, bytes_of}
 use Rattle.ua_channel.specs.Sharing.{end_at, own}
 use Rattle.message_ends.specs.Ends.{obeyed_by}
 use Rattle.message_ends.specs.Talk.{Talk, out_of}
-use Rattle.message_ends.proofs.Ordering.{firsts_with}
+use Rattle.message_ends.specs.Showing.{firsts_with}
 use Rattle.server_rules.specs.declared.config.ServerConfig.{ServerConfig}
 use Rattle.server_rules.specs.State.{ServerState}
 use Rattle.server_rules.specs.Said.{orders_of}

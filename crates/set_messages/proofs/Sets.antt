@@ -1,20 +1,19 @@
 -- A set over bytes is shown by one over messages: servers, the client, and what is in flight between them.
-use Rattle.std.proofs.Common.{◌≡◌, ◌≢◌, ◌⊎◌, inl, inr, ℕ, zero, suc, ◌+◌, ◌==◌, ◌≤◌, Bool, true, false, cond, List, [], ◌++◌, length, Option, Some, None, is_some, slice_index_or, slice_set, refl, sym, ap, subst, ◌∙◌, arith}
-use Rattle.std.proofs.lemmas.Bool.Decides.{nat_tests}
-use Rattle.std.proofs.lemmas.Grind.{get_or-set_at}
-use Rattle.std.proofs.lemmas.List.{append-nil, length-set, get_or-set_other}
+use Rattle.std.proofs.Common.{◌≡◌, ◌≢◌, ◌⊎◌, inl, inr, ℕ, zero, suc, ◌+◌, ◌==◌, ◌≤◌, true, cond, List, [], ◌++◌, length, Option, Some, None, is_some, refl, sym, ap, subst, ◌∙◌, arith}
+use Rattle.std.proofs.lemmas.List.{append-nil, length-set}
 use Rattle.std.specs.List.{AllByRecursion}
 use Rattle.ua_channel.specs.State.{ChannelState, WireState}
 use Rattle.ua_channel.specs.Sharing.{end_at}
 use Rattle.message_ends.specs.Talk.{out_of, without_out}
 use Rattle.message_ends.proofs.Lookups.{same_number}
-use Rattle.message_ends.proofs.Ordering.{firsts_with, next_in}
+use Rattle.message_ends.specs.Showing.{firsts_with, next_in}
 use Rattle.client_rules.specs.State.{is_server}
 use Rattle.client_messages.specs.Showing.{Brings as ClientBrings}
 use Rattle.server_keeps.specs.Fitting.{FitsChange}
 use Rattle.server_messages.specs.Showing.{Awaits}
-use Rattle.set_rules.specs.State.{Connection, Slot}
-use Rattle.set_rules.specs.Moves.{asked_by, cleared_by, client_does, gathered_among, gathered_at, no_slot, slot_at, with_slot}
+use Rattle.set_rules.specs.State.{Connection}
+use Rattle.set_rules.specs.Moves.{asked_by, cleared_by, client_does, gathered_among, gathered_at, slot_at, with_slot}
+use Rattle.set_rules.proofs.Places.{here_or_not, other_server, slot_here, slot_other}
 use Rattle.set_world.specs.Bytes as bytes
 use Rattle.set_world.specs.State.{ByteSet}
 use Rattle.ua_client.specs.State as client
@@ -24,36 +23,6 @@ use Rattle.set_messages.specs.World.{MessageSet}
 use Rattle.set_messages.proofs.Flights.{Flight, IsMore, longer}
 use Rattle.set_messages.proofs.Facts.{ClientLaws, LinkExpects, LinkHolds, OthersStay, SameServers}
 use Rattle.set_messages.proofs.Slots.{MessageSlot, ServesOn, Shown, SlotShows, connection_none, slot_changes}
-
--- ---- places
-
-pub here_or_not : (b : Bool) (q place : ℕ) → (q == place) ≡ b → (q ≡ place) ⊎ (q ≢ place)
-here_or_not true q place e = inl (grind (arith, nat_tests))
-here_or_not false q place e = inr (λ same. absurd (not_same q place e same))
-  where
-    not_same : (q place : ℕ) → (q == place) ≡ false → q ≡ place → ⊥
-    not_same q place e same = grind (arith, nat_tests)
-
-pub slot_here : {S W : Type 0} (slots : List (Slot S W)) (place : ℕ) (s : Slot S W) → place + 1 ≤ length slots
-    → slice_index_or (slice_set slots place s) place no_slot ≡ s
-slot_here slots place s within = get_or-set_at slots place place s no_slot refl (omega (arith, within))
-
-pub slot_other : {S W : Type 0} (slots : List (Slot S W)) (place q : ℕ) (s : Slot S W) → q ≢ place
-    → slice_index_or (slice_set slots place s) q no_slot ≡ slice_index_or slots q no_slot
-slot_other slots place q s differ = get_or-set_other slots place q s no_slot differ
-
-pub other_server : (q place : ℕ) → q ≢ place → (q + 1 == place + 1) ≡ false
-other_server q place differ = next_differs (q == place) refl
-  where
-    same_next : (q place : ℕ) → (q == place) ≡ true → q ≡ place
-    same_next q place e = grind (arith, nat_tests)
-
-    apart_next : (q place : ℕ) → (q == place) ≡ false → (q + 1 == place + 1) ≡ false
-    apart_next q place e = grind (arith, nat_tests)
-
-    next_differs : (b : Bool) → (q == place) ≡ b → (q + 1 == place + 1) ≡ false
-    next_differs true e = absurd (differ (same_next q place e))
-    next_differs false e = apart_next q place e
 
 module _ (Shows : (ℕ → ℕ) → client.BytesState → Client → Type 0) where
   abbrev pub ShowsAt : (ℕ → ℕ) → client.BytesState → ℕ → bytes.ByteSlot → MessageSlot → Type 0

@@ -12,10 +12,10 @@ use Rattle.ua_channel.specs.declared.wire.Order.{Order}
 use Rattle.ua_channel.specs.Messages.{hearing_of}
 use Rattle.message_ends.specs.Ends.{MessageEnd, emptied_by, new_end, obeyed_by, out_by, set_end}
 use Rattle.message_ends.specs.Talk.{Talk, heard_all, heard_one, out_of, without_out}
-use Rattle.message_ends.specs.Showing.{ExpectsIn, ShowsEnd}
+use Rattle.message_ends.specs.Showing.{ExpectsIn, ShowsEnd, firsts_with, next_in}
 use Rattle.message_ends.proofs.Hearing.{leaves, none_taken, taken_deaf}
 use Rattle.message_ends.proofs.Lookups.{number_is, same_number}
-use Rattle.message_ends.proofs.Ordering.{firsts_with, next_in, set_apart, set_same}
+use Rattle.message_ends.proofs.Ordering.{set_apart, set_same}
 use Rattle.server_rules.specs.Said.{orders_of}
 use Rattle.server_rules.specs.Connecting.{is_above}
 use Rattle.server_rules.specs.State.{ServerState}

@@ -18,6 +18,7 @@ use Rattle.set_rules.specs.State.{Connection}
 use Rattle.set_rules.specs.Slots.{currents, new_slot}
 use Rattle.set_rules.specs.Moves.{slot_at}
 use Rattle.set_rules.specs.World.{after_all, new_set}
+use Rattle.set_rules.proofs.Places.{place_within, slot_new, slots_long}
 use Rattle.set_world.proofs.Counting.{urls_count}
 use Rattle.direct_world.specs.Server.{place_in}
 use Rattle.set_world.specs.Bytes as bytes
@@ -34,8 +35,8 @@ use Rattle.set_messages.proofs.Flights.{Flight}
 use Rattle.set_messages.proofs.Facts.{LinkExpects, LinkHolds, ServerLaws}
 use Rattle.set_messages.proofs.Slots.{MessageSlot, Shown, SlotShows, new_shows}
 use Rattle.set_messages.proofs.Sets.{IsShown, ShowsAt}
-use Rattle.set_messages.proofs.Lines.{lines_show, place_within}
-use Rattle.set_messages.proofs.Beginning.{client_fits, currents_fit, server_fits, slot_new, slots_long}
+use Rattle.set_messages.proofs.Lines.{lines_show}
+use Rattle.set_messages.proofs.Beginning.{client_fits, currents_fit, server_fits}
 use Rattle.set_messages.proofs.ClientFacts.{client_laws}
 
 abbrev bytes_new : SetMode → ℕ → ℕ → ℕ → Bool → ByteSet

@@ -5,7 +5,7 @@ use Rattle.set_world.specs.Bytes as bytes
 use Rattle.set_world.specs.Texts.{client_config}
 use Rattle.set_messages.specs.Nodes as messages
 use Rattle.set_fronts.proofs.Lines.{fronts}
-use Rattle.set_fronts.proofs.laws.what_is_put_is_taken_or_in_flight.Goals as goal
+use Rattle.set_fronts.proofs.laws.what_is_taken_was_put.Goals as goal
 
 pub returns-clause-messages : goal.returns-clause-messages
 returns-clause-messages c = λ mode servers items queue oldest lines.
