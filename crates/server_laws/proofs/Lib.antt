@@ -1,41 +1,41 @@
-mod Finding
-mod Standing
-mod Telling
-mod Within
-mod Coming
-mod Replying
-mod Owning
-mod Sending
-mod Ticking
-mod Asking
-mod Hearing
-mod Feeding
-mod Living
-mod Given
-mod Sharing
-mod Currents
-mod Saying
-mod Responding
-mod Channels
-mod Neighbours
-mod Counting
-mod Waiting
-mod Silent
-mod Kept
-mod Serving
-mod Quieting
-mod Keeping
-mod Whole
-mod Chaining
-mod Putting
-mod Granting
-mod Lasting
-mod Beginning
-mod Setting
-mod Making
-mod Waking
-mod Tallying
-mod Bounding
-mod Numbering
-mod Holding
-mod Giving
+pub mod Finding
+pub mod Standing
+pub mod Telling
+pub mod Within
+pub mod Coming
+pub mod Replying
+pub mod Owning
+pub mod Sending
+pub mod Ticking
+pub mod Asking
+pub mod Hearing
+pub mod Feeding
+pub mod Living
+pub mod Given
+pub mod Sharing
+pub mod Currents
+pub mod Saying
+pub mod Responding
+pub mod Channels
+pub mod Neighbours
+pub mod Counting
+pub mod Waiting
+pub mod Silent
+pub mod Kept
+pub mod Serving
+pub mod Quieting
+pub mod Keeping
+pub mod Whole
+pub mod Chaining
+pub mod Putting
+pub mod Granting
+pub mod Lasting
+pub mod Beginning
+pub mod Setting
+pub mod Making
+pub mod Waking
+pub mod Tallying
+pub mod Bounding
+pub mod Numbering
+pub mod Holding
+pub mod Giving

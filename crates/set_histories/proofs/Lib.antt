@@ -1,0 +1,11 @@
+pub mod Walking
+pub mod Forgetting
+pub mod Linking
+pub mod Ends
+pub mod Serving
+pub mod Living
+pub mod Learning
+pub mod Closing
+pub mod Whole
+pub mod Dialled
+pub mod Links

@@ -1,0 +1,4 @@
+pub mod Heard
+pub mod Lives
+pub mod Recording
+pub mod Histories
