@@ -1,0 +1,5 @@
+pub mod Arriving
+pub mod Linking
+pub mod Bringing
+pub mod Lengths
+pub mod Saying
