@@ -1,0 +1,3 @@
+pub mod From
+pub mod Exchange
+pub mod Naming
