@@ -1,0 +1,4 @@
+pub mod Joints
+pub mod Lists
+pub mod Lives
+pub mod SwitchLines

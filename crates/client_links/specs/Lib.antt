@@ -1,0 +1,3 @@
+pub mod Links
+pub mod Feeding
+pub mod Switching
