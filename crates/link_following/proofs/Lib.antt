@@ -1,0 +1,4 @@
+pub mod Values
+pub mod Telling
+pub mod Booking
+pub mod Awaiting
