@@ -1,0 +1,4 @@
+pub mod Saying
+pub mod Owning
+pub mod Living
+pub mod Bringing
