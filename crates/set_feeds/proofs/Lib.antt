@@ -1,0 +1,4 @@
+pub mod Known
+pub mod Walking
+pub mod Feeding
+pub mod Sourcing
