@@ -2,3 +2,4 @@ pub mod Texts
 pub mod Bytes
 pub mod State
 pub mod Flight
+pub mod Worlds

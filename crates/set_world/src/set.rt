@@ -17,9 +17,10 @@ ghost use Rattle.set_world.specs.Bytes.{beginning, nodes};
 use crate::making::{Kind, life};
 use crate::pieces;
 use crate::slot::Slot;
+use direct_world::{append, place_in};
 use link_rules::Wish;
 use redundancy_nodes::CurrentChanges;
-use set_model::{Change, MOST_PICO, SourceFault, SourceLog};
+use set_model::{Change, SourceLog};
 use std::alloc::Global;
 use std::marker::Model;
 use ua_base::OutOfMemory;
@@ -45,19 +46,6 @@ impl Model for Set {
     ghost view = { λ s. record { source = s.source; slots = s.slots.items; client = s.client.bytes } };
 
     ghost invariant = { λ s. (length s.slots.items ≤ 8) × (1 ≤ s.piece) };
-}
-
-/// Appends a change, unless it can't be one of the source.
-fn append(source: &mut SourceLog, change: Change) -> Result<(), OutOfMemory>
-    ensures { OnOk result (source.new ≡ appended change source.old) }
-{
-    if change.pico > MOST_PICO {
-        return Ok(());
-    }
-    match source.append(change) {
-        Err(SourceFault::OutOfMemory) => Err(OutOfMemory),
-        _ => Ok(()),
-    }
 }
 
 /// Lets an event of the client happen.
@@ -94,12 +82,7 @@ impl Set {
         ensures place { result ≡ place_in server (length self.now.slots) }
         ensures within { IfSome result (λ place. place < length self.now.slots) }
     {
-        let count = self.count();
-        if server >= 1 && usize::from(server) <= count {
-            Some(usize::from(server) - 1)
-        } else {
-            None
-        }
+        place_in(server, self.slots.len())
     }
 
     /// The bytes in flight to the server, or from it.

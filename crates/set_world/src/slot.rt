@@ -9,6 +9,7 @@ ghost use Rattle.set_world.specs.Bytes.{Takes, nodes};
 ghost use Rattle.set_world.specs.Flight.{flight_in};
 
 use crate::pieces;
+use direct_world::next_changes;
 use set_model::Change;
 use std::alloc::Global;
 use std::marker::Model;
@@ -60,19 +61,6 @@ impl Model for Slot {
       given = s.given;
       connection = s.connection;
     } };
-}
-
-/// The changes from a place on, up to so many.
-fn next_changes(changes: &[Change], place: usize, count: usize) -> &[Change]
-    ensures changes { result.now ≡ take count (drop place changes.now) }
-    ensures within { place + length result.now ≤ max place (length changes.now) }
-{
-    if place <= changes.len() {
-        let (_, next) = changes.split_at(place);
-        next.split_at(count.min(next.len())).0
-    } else {
-        &[]
-    }
 }
 
 impl Slot {

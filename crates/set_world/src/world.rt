@@ -1,53 +1,25 @@
-ghost use Rattle.std.specs.Prelude.{[], ◌≡◌, ◌≢◌, ◌<◌, ◌≤◌, IfOk, IfSome, OnErr, OnOk, false, length, true};
-ghost use Rattle.ua_base.specs.declared.modes.SetMode.TheVariants.{Direct};
-ghost use Rattle.client_cuts.specs.Resting.{IsAtRest};
-ghost use Rattle.set_rules.specs.World.{after};
-ghost use Rattle.set_world.specs.Bytes.{beginning, nodes};
-ghost use Rattle.set_world.specs.Flight.{flight_of};
-ghost use Rattle.set_world.specs.State.{new_world, world_after};
+ghost use Rattle.std.specs.Prelude.{[], ◌≡◌, ◌≤◌, IfOk, OnErr, OnOk, false, true};
+ghost use Rattle.set_world.specs.Worlds.{flight_in, has_failed, lines_of, taken, world_of};
 
-use crate::making::{Kind, client};
-use crate::set::{Set, new_slots};
+use crate::over_bytes::OverBytes;
 use scenario::Line;
-use set_model::{LogLine, SourceLog};
+use set_model::LogLine;
 use std::alloc::Global;
-use std::marker::Model;
 use ua_base::{OutOfMemory, SetMode};
-use ua_server::ServerEvent;
 
-/// How many bytes come at once at most, where no line says it.
-const FIRST_PIECE: usize = 65_536;
-
-/// The world of a set of servers and a client that fails over between them.
+/// The world of a set in any mode.
 #[derive(Drop)]
-pub struct World {
-    kind: Kind,
-    set: Set,
-    failed: bool,
-}
-
-impl Model for World {
-    ghost use Rattle.std.specs.Prelude.{◌≡◌, false};
-    ghost use Rattle.client_cuts.specs.Resting.{IsAtRest};
-    ghost use Rattle.set_world.specs.State.{WorldState};
-
-    ghost Value = { WorldState };
-
-    ghost view = { λ w. record {
-      mode = w.kind.mode;
-      servers = w.kind.servers;
-      items = w.kind.items;
-      set = w.set;
-      failed = w.failed;
-    } };
-
-    ghost invariant = { λ w. w.failed ≡ false → IsAtRest w.set.client };
+pub enum World {
+    /// A client that takes entries from the queues of independent servers.
+    Direct(direct_world::World),
+    /// A redundant set in hot, warm or cold mode (OPC 10000-4, 6.6.2.4.5), over bytes.
+    Redundant(OverBytes),
 }
 
 impl World {
-    /// The world when the set begins: every server runs its first life, the client has dialled, and nothing changed yet.
-    /// The set has from 1 to 8 servers and each server from 1 to 64 items. The queue of an item holds `queue` values,
-    /// from 2 to 1000, and a full one discards its oldest or, with `oldest` false, its newest (OPC 10000-4, 5.12.1.5).
+    /// The world when the set begins: every server runs its first life, and nothing changed yet. The set has from 1 to 8
+    /// servers, and each server so many items, from 1 to 64. The queue of an item holds `queue` values, up to 1000; a full
+    /// one discards its oldest or, with `oldest` false, its newest (OPC 10000-4, 5.12.1.5).
     ///
     /// # Errors
     ///
@@ -60,132 +32,58 @@ impl World {
         queue: u32,
         oldest: bool,
     ) -> Result<World, OutOfMemory>
-        requires mode { mode ≢ Direct }
         requires servers { (1 ≤ servers) × (servers ≤ 8) }
-        ensures { IfOk result (λ world. world ≡ new_world mode servers items queue oldest) }
+        requires queue { (1 ≤ queue) × (queue ≤ 1000) }
+        ensures { IfOk result (λ world. world ≡ world_of mode servers items queue oldest) }
     {
-        let kind = Kind {
-            mode,
-            servers,
-            items,
-        };
-        let set = new_set(alloc, kind, queue, oldest)?;
-        Ok(World {
-            kind,
-            set,
-            failed: false,
-        })
+        match mode {
+            SetMode::Direct => {
+                let world = direct_world::World::new(alloc, servers, items, queue, oldest)?;
+                Ok(World::Direct(world))
+            }
+            SetMode::Hot | SetMode::Warm | SetMode::Cold => {
+                let world = OverBytes::new(alloc, mode, servers, items, queue, oldest)?;
+                Ok(World::Redundant(world))
+            }
+        }
     }
 
     /// The report of the client so far.
     pub fn lines(&self) -> &[LogLine]
-        ensures { result.now ≡ self.now.set.client.hub.log.lines }
+        ensures { result.now ≡ lines_of self.now }
     {
-        self.set.client.lines()
+        match self {
+            World::Direct(world) => world.lines(),
+            World::Redundant(world) => world.lines(),
+        }
     }
 
     /// The bytes in flight to the server of this number, or, with `to_server` false, from it: those that one node put and the
-    /// other hasn't taken. They are none where no connection stands, or there is no such server.
+    /// other hasn't taken. They are none where no connection stands, or there is no such server; nothing is in flight in a
+    /// direct set.
     pub fn flight(&self, server: u8, to_server: bool) -> &[u8]
-        ensures { result.now ≡ flight_of [] server to_server self.now.set }
+        ensures { result.now ≡ flight_in server to_server self.now }
     {
-        self.set.flight(server, to_server)
+        match self {
+            World::Direct(_) => &[],
+            World::Redundant(world) => world.flight(server, to_server),
+        }
     }
 
     /// Takes the next line of a scenario. A line that names a server that isn't there leaves the world as it is, and so do
-    /// those that say nothing of the nodes of a set, as its first two.
+    /// those that say nothing of the nodes of such a set, as its first two.
     ///
     /// # Errors
     ///
-    /// Want of memory. The world has failed then, and answers it from then on; of its state nothing is said.
+    /// Want of memory. The world has failed then, and answers it from then on; of its state nothing else is said.
     pub fn line(&mut self, alloc: Global, line: &Line) -> Result<(), OutOfMemory>
-        ensures ok { OnOk result (self.new ≡ world_after line.now self.old) }
-        ensures works { OnOk result (self.old.failed ≡ false) }
-        ensures failed { OnErr result (self.new.failed ≡ true) }
+        ensures ok { OnOk result (self.new ≡ taken line.now self.old) }
+        ensures works { OnOk result (has_failed self.old ≡ false) }
+        ensures failed { OnErr result (has_failed self.new ≡ true) }
     {
-        if self.failed {
-            return Err(OutOfMemory);
+        match self {
+            World::Direct(world) => world.line(alloc, line),
+            World::Redundant(world) => world.line(alloc, line),
         }
-        let result = step(alloc, self.kind, &mut self.set, line);
-        if result.is_err() {
-            self.failed = true;
-        }
-        result
     }
-}
-
-/// What the line does to a set.
-fn step(alloc: Global, kind: Kind, set: &mut Set, line: &Line) -> Result<(), OutOfMemory>
-    requires { IsAtRest set.old.client }
-    ensures set { OnOk result (set.new
-        ≡ after nodes (beginning kind.mode kind.servers kind.items) kind.items line.now set.old) }
-    ensures rests { OnOk result (IsAtRest set.new.client) }
-{
-    match *line {
-        Line::Change { change } => set.change(change),
-        Line::Tick { ms } => set.tick(alloc, ms),
-        Line::Pass { rounds } => set.pass(alloc, rounds),
-        Line::Feed { server, count } => match set.place_of(server) {
-            Some(place) => set.feed(alloc, place, count),
-            None => Ok(()),
-        },
-        Line::Level { server, level } => match set.place_of(server) {
-            Some(place) => {
-                let event = ServerEvent::Level { level };
-                set.happen(alloc, place, &event)
-            },
-            None => Ok(()),
-        },
-        Line::Stop { server } => match set.place_of(server) {
-            Some(place) => set.stop(alloc, place),
-            None => Ok(()),
-        },
-        Line::Start { server } => match set.place_of(server) {
-            Some(place) => set.start(alloc, kind, place),
-            None => Ok(()),
-        },
-        Line::Cut { server } => match set.place_of(server) {
-            Some(place) => set.lose(alloc, place),
-            None => Ok(()),
-        },
-        Line::Half { server } => match set.place_of(server) {
-            Some(place) => set.halve(alloc, place),
-            None => Ok(()),
-        },
-        Line::Hold { server } => {
-            if let Some(place) = set.place_of(server) {
-                set.hold(place, true);
-            }
-            Ok(())
-        }
-        Line::Free { server } => {
-            if let Some(place) = set.place_of(server) {
-                set.hold(place, false);
-            }
-            Ok(())
-        }
-        Line::Piece { bytes } => {
-            set.cut(bytes);
-            Ok(())
-        }
-        _ => Ok(()),
-    }
-}
-
-/// A set that begins.
-fn new_set(alloc: Global, kind: Kind, queue: u32, oldest: bool) -> Result<Set, OutOfMemory>
-    requires mode { kind.mode ≢ Direct }
-    requires servers { (1 ≤ kind.servers) × (kind.servers ≤ 8) }
-    ensures set { IfOk result (λ set. set
-        ≡ (new_world kind.mode kind.servers kind.items queue oldest).set) }
-    ensures rests { IfOk result (λ set. IsAtRest set.client) }
-{
-    let client = client(alloc, kind, queue, oldest)?;
-    let slots = new_slots(alloc, kind)?;
-    Ok(Set {
-        source: SourceLog::new(alloc),
-        slots,
-        client,
-        piece: FIRST_PIECE,
-    })
 }

@@ -18,10 +18,12 @@ use Rattle.scenario.proofs.ValidLemmas.{valid_lines}
 use Rattle.direct_world.specs.Plain.{IsPlain}
 use Rattle.direct_world.proofs.Law.{world_changes, world_safe, world_in_order, world_caused}
 use Rattle.direct_world.proofs.Plainness.{world_plain}
-use Rattle.uaset.specs.Answer.{answer_of, answer_by, client_log, log_in, past_of, size_of, world_of}
+use Rattle.set_world.specs.Worlds.{all_taken, lines_of, world_of as in_mode}
+use Rattle.uaset.specs.Answer.{answer_of, answer_by, client_log, past_of, size_of, world_of}
 use Rattle.uaset.specs.declared.words.Command.TheVariants as command
 use Rattle.uaset.specs.Commands.{IsTrustworthy, Means}
-use Rattle.uaset.proofs.Messages.{OnlyStanding, ShowsBytes, same_log}
+use Rattle.uaset.proofs.Client.{OfClients}
+use Rattle.uaset.proofs.Messages.{OnlyStanding, ShowsBytes, direct_log, same_log}
 
 -- a scenario's queues have from 2 to 1000 places
 pub queue_fits : (rules : Rules) (bytes : List ℕ) (lines : List Line) → scenario_of rules bytes ≡ Ok lines
@@ -48,7 +50,9 @@ trustworthy rules bytes lines h direct =
     let two : 2 ≤ size.queue = (queue_fits rules bytes lines h).0 in
     let source = world_changes size.servers size.items size.oldest size.queue lines valid.source valid.few_changes in
     let log : List LogLine = (world_of lines).log.lines in
-    let same : log ≡ client_log lines = ap (λ (m : SetMode). log_in m lines) (sym direct) in
+    let same : log ≡ client_log lines =
+    sym (direct_log size.servers size.items size.queue size.oldest lines)
+    ∙ ap (λ (m : SetMode). lines_of (all_taken lines (in_mode m size.servers size.items size.queue size.oldest))) (sym direct) in
     let P : List Change → Type 0 = λ s. Safe s log in
     let Q : List Change → Type 0 = λ s. InOrder s log in
     let S : List LogLine → Type 0 = λ l. Safe (changes_in lines) l in
@@ -65,16 +69,17 @@ trustworthy rules bytes lines h direct =
 ok_is : (report text : List ℕ) → ◌≡◌ {A = Result (List ℕ) ScenarioFault} (Ok report) (Ok text) → text ≡ report
 ok_is report text e = cc
 
-promised : OnlyStanding → ShowsBytes → (pool : ℕ) (bytes text : List ℕ) (scenario : Result (List Line) ScenarioFault) → scenario_of (rules_of_replay pool) bytes ≡ scenario
+promised : OnlyStanding → ShowsBytes → OfClients → (pool : ℕ) (bytes text : List ℕ) (scenario : Result (List Line) ScenarioFault) → scenario_of (rules_of_replay pool) bytes ≡ scenario
     → answer_by scenario ≡ Ok text → Means pool command.Replay bytes text
-promised standing shows pool bytes text (Ok lines) is h = (
+promised standing shows clients pool bytes text (Ok lines) is h = (
   lines,
   is,
   ok_is (report_text (client_log lines)) text h ∙ ap report_text (same_log standing shows (rules_of_replay pool) bytes lines is),
   trustworthy (rules_of_replay pool) bytes lines is,
+  clients lines,
 )
-promised standing shows pool bytes text (Err fault) is h = absurd cc
+promised standing shows clients pool bytes text (Err fault) is h = absurd cc
 
--- a report is that of a scenario whose log can be trusted, where its set is direct
-pub report_promised : OnlyStanding → ShowsBytes → (pool : ℕ) (bytes text : List ℕ) → answer_of pool bytes ≡ Ok text → Means pool command.Replay bytes text
-report_promised standing shows pool bytes text h = promised standing shows pool bytes text (scenario_of (rules_of_replay pool) bytes) refl h
+-- a report is that of a scenario whose log can be trusted where its set is direct, and is of its client where it is redundant
+pub report_promised : OnlyStanding → ShowsBytes → OfClients → (pool : ℕ) (bytes text : List ℕ) → answer_of pool bytes ≡ Ok text → Means pool command.Replay bytes text
+report_promised standing shows clients pool bytes text h = promised standing shows clients pool bytes text (scenario_of (rules_of_replay pool) bytes) refl h

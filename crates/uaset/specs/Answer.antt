@@ -14,7 +14,8 @@ use Rattle.scenario.specs.Rules.{rules_of_replay}
 use Rattle.scenario.specs.Scenario.{scenario_of}
 use Rattle.direct_world.specs.State.{WorldState}
 use Rattle.direct_world.specs.World as world
-use Rattle.set_world.specs.State as bytes
+use Rattle.set_world.specs.Worlds as worlds
+use Rattle.set_world.specs.Worlds.{all_taken, lines_of}
 use Rattle.set_messages.specs.World.{messages_after}
 use Rattle.direct_world.specs.History.{history_of}
 
@@ -48,30 +49,10 @@ size_of _ = no_size
 abbrev pub world_of : List Line → WorldState
 world_of lines = let size = size_of lines in world.world_of size.servers size.items size.oldest size.queue lines
 
--- a world over bytes after these lines
-abbrev pub world_after_all : List Line → bytes.WorldState → bytes.WorldState
-world_after_all [] w = w
-world_after_all (line ∷ lines) w = world_after_all lines (bytes.world_after line w)
-
--- the world of a set over bytes at the end of a scenario's lines
-abbrev pub world_over_bytes : List Line → bytes.WorldState
-world_over_bytes lines = let size = size_of lines in
-    world_after_all lines (bytes.new_world size.mode size.servers size.items size.queue size.oldest)
-
--- the client's log at the end of a scenario's lines, where the set is over bytes
-unfoldable pub log_over_bytes : List Line → List LogLine
-log_over_bytes lines = (world_over_bytes lines).set.client.hub.log.lines
-
--- the same, where the set is in this mode
-abbrev pub log_in : SetMode → List Line → List LogLine
-log_in Direct lines = (world_of lines).log.lines
-log_in Hot lines = log_over_bytes lines
-log_in Warm lines = log_over_bytes lines
-log_in Cold lines = log_over_bytes lines
-
--- the client's log at the end of a scenario's lines
+-- the client's log at the end of a scenario's lines, which a world of the set takes one after another
 abbrev pub client_log : List Line → List LogLine
-client_log lines = log_in (size_of lines).mode lines
+client_log lines = let size = size_of lines in
+    lines_of (all_taken lines (worlds.world_of size.mode size.servers size.items size.queue size.oldest))
 
 -- ---- the same over whole messages, with no bytes, no pieces and no numbers of chunks
 

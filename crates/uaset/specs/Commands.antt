@@ -1,5 +1,5 @@
 -- How much each command reads, what it answers of that, and what the answer means.
-use Rattle.std.specs.Prelude.{◌≡◌, ℕ, List, All, Option, Some, None, Result, Ok, Err}
+use Rattle.std.specs.Prelude.{◌≡◌, ◌≢◌, ℕ, List, All, Option, Some, None, Result, Ok, Err}
 use Rattle.ua_base.specs.declared.modes.SetMode.TheVariants.{Direct}
 use Rattle.delivery_log.specs.Caused.{Caused}
 use Rattle.delivery_log.specs.Safe.{InOrder, Safe}
@@ -24,6 +24,7 @@ use Rattle.uaset.specs.declared.words.Command.TheVariants as command
 use Rattle.uaset.specs.declared.answer.Refusal.{Refusal}
 use Rattle.uaset.specs.declared.answer.Refusal.TheVariants as refusal
 use Rattle.uaset.specs.Answer.{answer_of, client_log, defined_log, past_of, size_of}
+use Rattle.uaset.specs.Client.{IsOfItsClient}
 
 -- ---- what is read
 
@@ -71,13 +72,13 @@ pub record IsTrustworthy (lines : List Line) : Type 0 where
   pub plain : All IsPlain (client_log lines)
 
 -- the text is the report of the client's log of a scenario, as the world is defined, in which nothing but whole messages is
--- in flight; where the set is direct the log can be trusted, and of other sets no more is said so far than their exact
--- text; or what the one value holds that the whole input spells; or a line
+-- in flight; where the set is direct the log can be trusted; where it is redundant the log is what its client makes of all
+-- that happened to it; or what the one value holds that the whole input spells; or a line
 -- for each of the frames that the input begins with, as many as there are, and how many bytes follow
 abbrev pub Means : ℕ → Command → List ℕ → List ℕ → Type 0
 Means pool command.Replay bytes text =
     (lines : List Line) × (scenario_of (rules_of_replay pool) bytes ≡ Ok lines) × (text ≡ report_text (defined_log lines))
-    × ((size_of lines).mode ≡ Direct → IsTrustworthy lines)
+    × ((size_of lines).mode ≡ Direct → IsTrustworthy lines) × ((size_of lines).mode ≢ Direct → IsOfItsClient lines)
 Means pool command.ShowValue bytes text = (d : Stamped Variant) × data_value 101 d bytes × (text ≡ value_text d)
 Means pool command.ShowStream bytes text =
     (split : Split) × IsFramed 0 bytes split × (fault_of split.rest ≡ None) × (text ≡ stream_text split)

@@ -1,4 +1,5 @@
 pub mod Answer
+pub mod Client
 pub mod Commands
 pub mod Edges
 pub mod Run

@@ -32,6 +32,13 @@ fn replayed(alloc: Global, bytes: &[u8], pool: usize) -> Result<Vec<u8>, Refusal
     // The text that is made over bytes is that of the definition, which has whole messages alone.
     scenario::scenarios_are_read();
     set_messages::messages_show_bytes();
+    // Of a redundant set it is what the client makes of all that happens to it.
+    set_histories::histories_are_of_the_set();
+    client_laws::gaps_have_true_causes();
+    client_laws::stamps_rise();
+    client_laws::switches_are_choices();
+    client_laws::switches_go_to_the_best();
+    client_links::switch_lines_are_switches();
     match replay(alloc, bytes, pool) {
         Ok(text) => Ok(text),
         Err(ReadError::Fault(fault)) => Err(Refusal::Scenario {

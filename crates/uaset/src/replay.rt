@@ -1,12 +1,11 @@
-ghost use Rattle.std.specs.Prelude.{◌≡◌, ◌≢◌, ◌≤◌, IfOk, OnOk};
-ghost use Rattle.direct_world.specs.World.{after_all};
+ghost use Rattle.std.specs.Prelude.{◌≡◌, ◌≤◌, IfOk, OnOk};
 ghost use Rattle.set_model.specs.Report.{report_text};
-ghost use Rattle.ua_base.specs.declared.modes.SetMode.TheVariants.{Direct};
-ghost use Rattle.uaset.specs.Answer.{Renders, answer_of, client_log, size_of, world_of};
-ghost use Rattle.uaset.specs.Answer.{log_over_bytes, world_after_all};
+ghost use Rattle.set_world.specs.Worlds.{all_taken};
+ghost use Rattle.uaset.specs.Answer.{Renders, answer_of, client_log, size_of};
 
 use scenario::{Line, ReadError};
 use set_model::report_of;
+use set_world::World;
 use std::alloc::Global;
 use ua_base::{OutOfMemory, SetMode};
 
@@ -54,69 +53,13 @@ fn size_of(lines: &[Line]) -> Size
 }
 
 /// Takes each line in turn.
-fn run_direct(
-    alloc: Global,
-    world: &mut direct_world::World,
-    lines: &[Line],
-) -> Result<(), OutOfMemory>
-    ensures { OnOk result (world.new ≡ after_all lines.now world.old) }
+fn run(alloc: Global, world: &mut World, lines: &[Line]) -> Result<(), OutOfMemory>
+    ensures { OnOk result (world.new ≡ all_taken lines.now world.old) }
 {
     for line in lines {
         world.line(alloc, line)?;
     }
     Ok(())
-}
-
-/// Takes each line in turn.
-fn run_over_bytes(
-    alloc: Global,
-    world: &mut set_world::World,
-    lines: &[Line],
-) -> Result<(), OutOfMemory>
-    ensures { OnOk result (world.new ≡ world_after_all lines.now world.old) }
-{
-    for line in lines {
-        world.line(alloc, line)?;
-    }
-    Ok(())
-}
-
-/// The report of the world of a direct set over a scenario's lines.
-fn report_direct(alloc: Global, lines: &[Line]) -> Result<Vec<u8>, OutOfMemory>
-    requires least { 1 ≤ (size_of lines.now).queue }
-    requires most { (size_of lines.now).queue ≤ 1000 }
-    ensures { IfOk result (λ text. text.items ≡ report_text (world_of lines.now).log.lines) }
-{
-    let size = size_of(lines);
-    let mut world = direct_world::World::new(
-        alloc,
-        size.servers,
-        size.items,
-        size.queue,
-        size.oldest,
-    )?;
-    run_direct(alloc, &mut world, lines)?;
-    report_of(alloc, world.lines())
-}
-
-/// The report of the world of a set over bytes over a scenario's lines.
-#[tactic(auto, unfolding(crate::specs::Answer::log_over_bytes))]
-fn report_over_bytes(alloc: Global, lines: &[Line]) -> Result<Vec<u8>, OutOfMemory>
-    requires mode { (size_of lines.now).mode ≢ Direct }
-    requires servers { (1 ≤ (size_of lines.now).servers) × ((size_of lines.now).servers ≤ 8) }
-    ensures { IfOk result (λ text. text.items ≡ report_text (log_over_bytes lines.now)) }
-{
-    let size = size_of(lines);
-    let mut world = set_world::World::new(
-        alloc,
-        size.mode,
-        size.servers,
-        size.items,
-        size.queue,
-        size.oldest,
-    )?;
-    run_over_bytes(alloc, &mut world, lines)?;
-    report_of(alloc, world.lines())
 }
 
 /// The report of a scenario's lines.
@@ -125,10 +68,17 @@ fn report_lines(alloc: Global, lines: &[Line]) -> Result<Vec<u8>, OutOfMemory>
     requires servers { (1 ≤ (size_of lines.now).servers) × ((size_of lines.now).servers ≤ 8) }
     ensures { IfOk result (λ text. text.items ≡ report_text (client_log lines.now)) }
 {
-    match size_of(lines).mode {
-        SetMode::Direct => report_direct(alloc, lines),
-        SetMode::Hot | SetMode::Warm | SetMode::Cold => report_over_bytes(alloc, lines),
-    }
+    let size = size_of(lines);
+    let mut world = World::new(
+        alloc,
+        size.mode,
+        size.servers,
+        size.items,
+        size.queue,
+        size.oldest,
+    )?;
+    run(alloc, &mut world, lines)?;
+    report_of(alloc, world.lines())
 }
 
 /// The report of a scenario's text, which may attach so many listeners, or its first faulty line.

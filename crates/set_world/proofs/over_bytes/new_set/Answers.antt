@@ -4,7 +4,7 @@ use Rattle.client_cuts.specs.Resting.{IsAtRest}
 use Rattle.client_cuts.proofs.Resting.{begins}
 use Rattle.set_world.specs.Texts.{client_config}
 use Rattle.set_world.proofs.Counting.{slots_count}
-use Rattle.set_world.proofs.world.new_set.Goals as goal
+use Rattle.set_world.proofs.over_bytes.new_set.Goals as goal
 
 some : 1 ≤ 65536
 some = omega arith
