@@ -1,4 +1,5 @@
 pub mod Joints
 pub mod Lists
 pub mod Lives
+mod Others
 pub mod SwitchLines

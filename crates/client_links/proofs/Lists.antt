@@ -1,5 +1,5 @@
 -- What acts and happenings come to, one list behind another.
-use Rattle.std.proofs.Common.{◌≡◌, ℕ, ◌==◌, List, [], ◌∷◌, ◌++◌, map, true, false, cond, refl, sym, ◌∙◌, ap, ap₂}
+use Rattle.std.proofs.Common.{◌≡◌, ℕ, ◌+◌, ◌==◌, List, [], ◌∷◌, ◌++◌, map, true, false, cond, refl, sym, ◌∙◌, ap, ap₂, arith}
 use Rattle.std.proofs.lemmas.List.{append-nil, append_assoc}
 use Rattle.ua_base.specs.declared.modes.Mode.{Mode}
 use Rattle.link_rules.specs.declared.notice.Notice.{Notice}
@@ -7,7 +7,9 @@ use Rattle.link_rules.specs.Said.{Said}
 use Rattle.link_rules.specs.State.{LinkState}
 use Rattle.link_rules.specs.Step as alone
 use Rattle.link_laws.specs.Asked.{NeverWants}
+use Rattle.link_laws.specs.Counted.{ticks_in}
 use Rattle.client_rules.specs.Acts.{ClientAct, Tells, Says}
+use Rattle.client_links.specs.Awaited.{AllAwaited}
 use Rattle.client_links.specs.Links.{Passing, Put, begun_by, passed_by, passed_in, passing_in, told_in, told_of}
 
 -- ---- acts
@@ -91,6 +93,11 @@ pub link_append : (first more : List alone.Happening) (l : LinkState)
 link_append [] more l = refl
 link_append (h ∷ first) more l = link_append first more (alone.after h l).link
 
+pub awaited_append : (first more : List alone.Happening) (l : LinkState) → AllAwaited first l
+    → AllAwaited more (alone.after_all first l).link → AllAwaited (first ++ more) l
+awaited_append [] more l one other = other
+awaited_append (h ∷ first) more l one other = (one.0, awaited_append first more (alone.after h l).link one.1 other)
+
 pub notices_append : (first more : List alone.Happening) (l : LinkState)
     → (alone.after_all (first ++ more) l).notices
     ≡ (alone.after_all first l).notices ++ (alone.after_all more (alone.after_all first l).link).notices
@@ -114,3 +121,9 @@ pub never_append : (mode : Mode) (first more : List alone.Happening) → NeverWa
     → NeverWants mode (first ++ more)
 never_append mode [] more none never = never
 never_append mode (h ∷ first) more none never = (none.0, never_append mode first more none.1 never)
+
+pub ticks_append : (first more : List alone.Happening) → ticks_in (first ++ more) ≡ ticks_in first + ticks_in more
+ticks_append [] more = omega arith
+ticks_append (h ∷ first) more =
+    let rest : ticks_in (first ++ more) ≡ ticks_in first + ticks_in more = ticks_append first more in
+    omega (arith, rest)

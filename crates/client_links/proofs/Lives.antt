@@ -15,6 +15,7 @@ use Rattle.link_rules.specs.State.{LinkState, is_ready, new_link}
 use Rattle.link_rules.specs.Opening as opening
 use Rattle.link_rules.specs.Step as alone
 use Rattle.link_laws.specs.Asked.{IsNoWish, NeverWants}
+use Rattle.link_laws.specs.Counted.{tick_at, ticks_in}
 use Rattle.client_rules.specs.declared.config.ClientConfig.{ClientConfig}
 use Rattle.client_rules.specs.State.{ClientState, idle_client, is_server, link_config, link_of, servers_of, with_link}
 use Rattle.client_rules.specs.Acts.{ClientAct, Happening, Happened, Opens, Refuses, Hears, Closes, Ticks}
@@ -24,25 +25,39 @@ use Rattle.client_rules.specs.Settling.{are_fewer, chosen, modes_told, ready_of,
 use Rattle.client_rules.specs.Dialling.{are_idle, dialled, dialled_by, dials_among, dials_at, dials_if, first_to_dial, has_numbers}
 use Rattle.client_rules.specs.Step.{Moment, Goes, Ends, Takes, after, after_all, at_moment, counted, endpoint, happening, happens, is_known, new_client, without_wish}
 use Rattle.client_laws.specs.Life.{acts_of, client_after}
-use Rattle.client_links.specs.Links.{IsHotOrCold, IsLinkLife, Opened, Passing, Put, Took, begun_by, passed_by, passed_in, told_of}
-use Rattle.client_links.proofs.Lists.{link_append, never_append, notices_append, passed_append, passed_by_append, passed_other, passed_own, told_append, told_other, told_own}
+use Rattle.client_links.specs.Awaited.{AllAwaited, AreAwaited, IsAwaited, IsAwaitedAt}
+use Rattle.client_links.specs.Links.{IsHotOrCold, IsLinkLife, Opened, Passing, Put, Took, begun_by, passed_by, passed_in, tick_by, tick_of, ticks_at, told_of}
+use Rattle.client_links.proofs.Lists.{awaited_append, link_append, never_append, notices_append, passed_append, passed_by_append, passed_other, passed_own, ticks_append, told_append, told_other, told_own}
 
--- a client became another one by these acts, and its link to a server by happenings of a link alone
-pub record Lives (server : ℕ) (c next : ClientState) (acts : List ClientAct) : Type 0 where
+-- a client became another one by these acts, and its link to a server by happenings of a link alone: they are awaited if this
+-- is given, and time passes in so many of them at most
+pub record LivesIf (server : ℕ) (c next : ClientState) (acts : List ClientAct) (given : Type 0) (most : ℕ) : Type 0 where
   pub happenings : List alone.Happening
   pub link : link_of server next ≡ (alone.after_all happenings (link_of server c)).link
   pub told : told_of server acts ≡ (alone.after_all happenings (link_of server c)).notices
   pub passed : passed_in server acts ≡ passed_by happenings (link_of server c)
   pub ordinary : IsHotOrCold c.core.mode → NeverWants Disabled happenings
+  pub awaited : given → AllAwaited happenings (link_of server c)
+  pub ticks : ticks_in happenings ≤ most
   pub count : length next.links ≡ length c.links
   pub mode : next.core.mode ≡ c.core.mode
 
+-- nothing comes of the server, and no time passes
+abbrev pub Lives : ℕ → ClientState → ClientState → List ClientAct → Type 0
+Lives server c next acts = LivesIf server c next acts (Unit {0}) 0
+
 -- ---- one rule after another
 
-lives_then : (server : ℕ) (c one next : ClientState) (acts more : List ClientAct) → Lives server c one acts
-    → Lives server one next more → Lives server c next (acts ++ more)
-lives_then server c one next acts more first second =
-    let l : LinkState = link_of server c in record {
+-- with what is given for both, and the ticks of both
+lives_both : (server : ℕ) (c one next : ClientState) (acts more : List ClientAct) (given wanted : Type 0) (most least : ℕ)
+    → LivesIf server c one acts given most → LivesIf server one next more wanted least
+    → LivesIf server c next (acts ++ more) (given × wanted) (most + least)
+lives_both server c one next acts more given wanted most least first second =
+    let l : LinkState = link_of server c in
+    let early : ticks_in first.happenings ≤ most = first.ticks in
+    let late : ticks_in second.happenings ≤ least = second.ticks in
+    let sum : ticks_in (first.happenings ++ second.happenings) ≡ ticks_in first.happenings + ticks_in second.happenings =
+    ticks_append first.happenings second.happenings in record {
       happenings = first.happenings ++ second.happenings;
       link = second.link ∙ ap (λ (m : LinkState). (alone.after_all second.happenings m).link) first.link
           ∙ sym (link_append first.happenings second.happenings l);
@@ -55,26 +70,68 @@ lives_then server c one next acts more first second =
           ∙ sym (passed_by_append first.happenings second.happenings l);
       ordinary = λ is. never_append Disabled first.happenings second.happenings (first.ordinary is)
           (second.ordinary (subst IsHotOrCold (sym first.mode) is));
+      awaited = λ g. awaited_append first.happenings second.happenings l (first.awaited g.0)
+          (subst (AllAwaited second.happenings) first.link (second.awaited g.1));
+      ticks = omega (arith, sum, early, late);
       count = second.count ∙ first.count;
       mode = second.mode ∙ first.mode;
     }
 
+-- where more is given, and there may be more ticks
+lives_more : (server : ℕ) (c next : ClientState) (acts : List ClientAct) (given more : Type 0) (least most : ℕ)
+    → (more → given) → least ≤ most → LivesIf server c next acts given least → LivesIf server c next acts more most
+lives_more server c next acts given more least most gives within lives =
+    let few : ticks_in lives.happenings ≤ least = lives.ticks in record {
+      happenings = lives.happenings;
+      link = lives.link;
+      told = lives.told;
+      passed = lives.passed;
+      ordinary = lives.ordinary;
+      awaited = λ g. lives.awaited (gives g);
+      ticks = omega (arith, few, within);
+      count = lives.count;
+      mode = lives.mode;
+    }
+
+-- what needs nothing and has no ticks follows
+lives_behind : (server : ℕ) (c one next : ClientState) (acts more : List ClientAct) (given : Type 0) (most : ℕ)
+    → LivesIf server c one acts given most → Lives server one next more → LivesIf server c next (acts ++ more) given most
+lives_behind server c one next acts more given most first second =
+    lives_more server c next (acts ++ more) (given × Unit {0}) given (most + 0) most (λ g. (g, tt)) (omega arith)
+    (lives_both server c one next acts more given (Unit {0}) most 0 first second)
+
+lives_then : (server : ℕ) (c one next : ClientState) (acts more : List ClientAct) → Lives server c one acts
+    → Lives server one next more → Lives server c next (acts ++ more)
+lives_then server c one next acts more first second =
+    lives_behind server c one next acts more (Unit {0}) 0 first second
+
 -- nothing happens to the link
-lives_beside : (server : ℕ) (c next : ClientState) (acts : List ClientAct) → link_of server next ≡ link_of server c
-    → told_of server acts ≡ [] → passed_in server acts ≡ [] → length next.links ≡ length c.links
-    → next.core.mode ≡ c.core.mode → Lives server c next acts
-lives_beside server c next acts link told passed count mode = record {
+beside_if : (given : Type 0) (most server : ℕ) (c next : ClientState) (acts : List ClientAct)
+    → link_of server next ≡ link_of server c → told_of server acts ≡ [] → passed_in server acts ≡ []
+    → length next.links ≡ length c.links → next.core.mode ≡ c.core.mode → LivesIf server c next acts given most
+beside_if given most server c next acts link told passed count mode = record {
   happenings = [];
   link = link;
   told = told;
   passed = passed;
   ordinary = λ is. tt;
+  awaited = λ g. tt;
+  ticks = omega arith;
   count = count;
   mode = mode;
 }
 
+lives_beside : (server : ℕ) (c next : ClientState) (acts : List ClientAct) → link_of server next ≡ link_of server c
+    → told_of server acts ≡ [] → passed_in server acts ≡ [] → length next.links ≡ length c.links
+    → next.core.mode ≡ c.core.mode → Lives server c next acts
+lives_beside server c next acts link told passed count mode =
+    beside_if (Unit {0}) 0 server c next acts link told passed count mode
+
+nothing_if : (given : Type 0) (most server : ℕ) (c : ClientState) → LivesIf server c c [] given most
+nothing_if given most server c = beside_if given most server c c [] refl refl refl refl refl
+
 lives_nothing : (server : ℕ) (c : ClientState) → Lives server c c []
-lives_nothing server c = lives_beside server c c [] refl refl refl refl refl
+lives_nothing server c = nothing_if (Unit {0}) 0 server c
 
 lives_if : (server : ℕ) (b : Bool) (c : ClientState) (did : ClientDid) → Lives server c did.client did.acts
     → Lives server c (if b then did else nothing c).client (if b then did else nothing c).acts
@@ -84,10 +141,10 @@ lives_if server false c did lives = lives_nothing server c
 -- ---- links
 
 -- the same links
-record IsAlike (c next : ClientState) : Type 0 where
-  config : next.config ≡ c.config
-  links : next.links ≡ c.links
-  mode : next.core.mode ≡ c.core.mode
+pub record IsAlike (c next : ClientState) : Type 0 where
+  pub config : next.config ≡ c.config
+  pub links : next.links ≡ c.links
+  pub mode : next.core.mode ≡ c.core.mode
 
 alike_then : (c one next : ClientState) → IsAlike c one → IsAlike one next → IsAlike c next
 alike_then c one next first second = record {
@@ -124,7 +181,7 @@ fell_alike : (server : ℕ) (b : Bool) (c : ClientState) → IsAlike c (fell ser
 fell_alike server true c = record { config = refl; links = refl; mode = refl }
 fell_alike server false c = record { config = refl; links = refl; mode = refl }
 
-linked_alike : (s : ℕ) (did : LinkDid) (c : ClientState) → IsAlike (with_link s did.link c) (linked_by s did c).client
+pub linked_alike : (s : ℕ) (did : LinkDid) (c : ClientState) → IsAlike (with_link s did.link c) (linked_by s did c).client
 unfolding linked_by
 linked_alike s did c =
     alike_then (with_link s did.link c) (moved s did.link c) (all_told s did.notices (moved s did.link c))
@@ -149,13 +206,14 @@ same_or_not a b false e = inr (grind (arith, nat_tests))
 -- ---- a link does something
 
 -- it happens to the server's own link, behind acts that say so
-linked_own : (server : ℕ) (h : alone.Happening) (front : List ClientAct) (c : ClientState) → 1 ≤ server
-    → server ≤ length c.links → (server == server) ≡ true → told_of server front ≡ [] → passed_in server front ≡ begun_by h
-    → (IsHotOrCold c.core.mode → IsNoWish Disabled h)
-    → Lives server c (linked_by server (alone.after h (link_of server c)) c).client
-    (front ++ (linked_by server (alone.after h (link_of server c)) c).acts)
+linked_own : (server : ℕ) (h : alone.Happening) (front : List ClientAct) (c : ClientState) (given : Type 0) (most : ℕ)
+    → 1 ≤ server → server ≤ length c.links → (server == server) ≡ true → told_of server front ≡ []
+    → passed_in server front ≡ begun_by h → (IsHotOrCold c.core.mode → IsNoWish Disabled h)
+    → (given → IsAwaited h (link_of server c)) → tick_at h ≤ most
+    → LivesIf server c (linked_by server (alone.after h (link_of server c)) c).client
+    (front ++ (linked_by server (alone.after h (link_of server c)) c).acts) given most
 unfolding linked_by
-linked_own server h front c from to own quiet begun wish =
+linked_own server h front c given most from to own quiet begun wish awaits tick =
     let did : LinkDid = alone.after h (link_of server c) in
     let same : IsAlike (with_link server did.link c) (linked_by server did c).client = linked_alike server did c in
     let acts : List ClientAct = (linked_by server did c).acts in record {
@@ -169,19 +227,21 @@ linked_own server h front c from to own quiet begun wish =
           ∙ ap₂ (λ (a b : List Passing). a ++ b) begun (passed_own server server did.notices did.said own)
           ∙ sym (append-nil (begun_by h ++ map Put did.said));
       ordinary = λ is. (wish is, tt);
+      awaited = λ g. (awaits g, tt);
+      ticks = omega (arith, tick);
       count = ap length same.links ∙ length-set c.links (server - 1) did.link;
       mode = same.mode;
     }
 
 -- what another link does is nothing to it
-linked_other : (s server : ℕ) (did : LinkDid) (front : List ClientAct) (c : ClientState) → (s == server) ≡ false
-    → s - 1 ≢ server - 1 → told_of server front ≡ [] → passed_in server front ≡ []
-    → Lives server c (linked_by s did c).client (front ++ (linked_by s did c).acts)
+linked_other : (given : Type 0) (most s server : ℕ) (did : LinkDid) (front : List ClientAct) (c : ClientState)
+    → (s == server) ≡ false → s - 1 ≢ server - 1 → told_of server front ≡ [] → passed_in server front ≡ []
+    → LivesIf server c (linked_by s did c).client (front ++ (linked_by s did c).acts) given most
 unfolding linked_by
-linked_other s server did front c test apart quiet begun =
+linked_other given most s server did front c test apart quiet begun =
     let same : IsAlike (with_link s did.link c) (linked_by s did c).client = linked_alike s did c in
     let acts : List ClientAct = (linked_by s did c).acts in
-    lives_beside server c (linked_by s did c).client (front ++ acts)
+    beside_if given most server c (linked_by s did c).client (front ++ acts)
     (link_alike server (with_link s did.link c) (linked_by s did c).client same ∙ set_beside s server did.link c apart)
     (told_append server front acts
     ∙ ap₂ (λ (a b : List Notice). a ++ b) quiet (told_other s server did.notices did.said test))
@@ -190,30 +250,84 @@ linked_other s server did front c test apart quiet begun =
     (ap length same.links ∙ length-set c.links (s - 1) did.link) same.mode
 
 -- of any server, whose number is 1 or more
-linked_test : (s server : ℕ) (h : alone.Happening) (front : List ClientAct) (c : ClientState) (t : Bool) → (s == server) ≡ t
-    → 1 ≤ s → 1 ≤ server → server ≤ length c.links → told_of server front ≡ []
+linked_test : (s server : ℕ) (h : alone.Happening) (front : List ClientAct) (c : ClientState) (given : Type 0) (most : ℕ)
+    (t : Bool) → (s == server) ≡ t → 1 ≤ s → 1 ≤ server → server ≤ length c.links → told_of server front ≡ []
     → ((s == server) ≡ true → passed_in server front ≡ begun_by h) → ((s == server) ≡ false → passed_in server front ≡ [])
-    → (IsHotOrCold c.core.mode → IsNoWish Disabled h)
-    → Lives server c (linked_by s (alone.after h (link_of s c)) c).client
-    (front ++ (linked_by s (alone.after h (link_of s c)) c).acts)
-linked_test s server h front c true e known from to quiet begun beside wish =
+    → (IsHotOrCold c.core.mode → IsNoWish Disabled h) → (given → s ≡ server → IsAwaited h (link_of server c))
+    → (s ≡ server → tick_at h ≤ most)
+    → LivesIf server c (linked_by s (alone.after h (link_of s c)) c).client
+    (front ++ (linked_by s (alone.after h (link_of s c)) c).acts) given most
+linked_test s server h front c given most true e known from to quiet begun beside wish awaited tick =
     let is : s ≡ server = grind (arith, nat_tests) in
     let own : (server == server) ≡ true = subst (λ k. (k == server) ≡ true) is e in
-    subst (λ k. Lives server c (linked_by k (alone.after h (link_of k c)) c).client
-    (front ++ (linked_by k (alone.after h (link_of k c)) c).acts)) (sym is)
-    (linked_own server h front c from to own quiet (begun e) wish)
-linked_test s server h front c false e known from to quiet begun beside wish =
+    subst (λ k. LivesIf server c (linked_by k (alone.after h (link_of k c)) c).client
+    (front ++ (linked_by k (alone.after h (link_of k c)) c).acts) given most) (sym is)
+    (linked_own server h front c given most from to own quiet (begun e) wish (λ g. awaited g is) (tick is))
+linked_test s server h front c given most false e known from to quiet begun beside wish awaited tick =
     let differ : s ≢ server = grind (arith, nat_tests) in
-    linked_other s server (alone.after h (link_of s c)) front c e (λ same. differ (omega arith)) quiet (beside e)
+    linked_other given most s server (alone.after h (link_of s c)) front c e (λ same. differ (omega arith)) quiet (beside e)
 
--- with no act before, where nothing of it passes but what it says
-linked_lives : (s server : ℕ) (h : alone.Happening) (c : ClientState) → 1 ≤ s → 1 ≤ server → server ≤ length c.links
-    → begun_by h ≡ [] → (IsHotOrCold c.core.mode → IsNoWish Disabled h)
-    → Lives server c (linked_by s (alone.after h (link_of s c)) c).client (linked_by s (alone.after h (link_of s c)) c).acts
-linked_lives s server h c known from to silent wish =
-    linked_test s server h [] c (s == server) refl known from to refl (λ e. sym silent) (λ e. refl) wish
+-- with no act before, where nothing of it passes but what it says, and it needn't be awaited
+linked_lives : (s server : ℕ) (h : alone.Happening) (c : ClientState) (most : ℕ) → 1 ≤ s → 1 ≤ server
+    → server ≤ length c.links → begun_by h ≡ [] → (IsHotOrCold c.core.mode → IsNoWish Disabled h)
+    → IsAwaited h (link_of server c) → (s ≡ server → tick_at h ≤ most)
+    → LivesIf server c (linked_by s (alone.after h (link_of s c)) c).client
+    (linked_by s (alone.after h (link_of s c)) c).acts (Unit {0}) most
+linked_lives s server h c most known from to silent wish awaited tick =
+    linked_test s server h [] c (Unit {0}) most (s == server) refl known from to refl (λ e. sym silent) (λ e. refl) wish
+    (λ g is. awaited) tick
 
 -- ---- all servers
+
+-- a tick at this server
+abbrev tick_here : Bool → ℕ
+tick_here true = 1
+tick_here false = 0
+
+-- at those servers up to this number
+abbrev ticks_up : ℕ → ℕ → ℕ
+ticks_up server zero = 0
+ticks_up server (suc count) = ticks_up server count + tick_here (count + 1 == server)
+
+none_up : (server count : ℕ) → count + 1 ≤ server → ticks_up server count ≡ 0
+none_up server zero below = refl
+none_up server (suc count) below =
+    let before : ticks_up server count ≡ 0 = none_up server count (omega arith) in
+    none_here server count (count + 1 == server) refl below before
+  where
+    none_here : (server count : ℕ) (b : Bool) → (count + 1 == server) ≡ b → suc count + 1 ≤ server
+        → ticks_up server count ≡ 0 → ticks_up server count + tick_here b ≡ 0
+    none_here server count true e below before = absurd (grind (arith, nat_tests))
+    none_here server count false e below before = omega (arith, before)
+
+one_up : (server count : ℕ) → ticks_up server count ≤ 1
+one_up server zero = omega arith
+one_up server (suc count) = one_here server count (count + 1 == server) refl (one_up server count)
+  where
+    one_here : (server count : ℕ) (b : Bool) → (count + 1 == server) ≡ b → ticks_up server count ≤ 1
+        → ticks_up server count + tick_here b ≤ 1
+    one_here server count false e before = omega (arith, before)
+    one_here server count true e before =
+        let is : count + 1 ≡ server = grind (arith, nat_tests) in
+        let none : ticks_up server count ≡ 0 = none_up server count (omega arith) in
+        omega (arith, none)
+
+each_ticks : (rule : ℕ → ClientState → ClientDid) (count server : ℕ) (c : ClientState) → server ≤ length c.links
+    → ((s : ℕ) (d : ClientState) → 1 ≤ s → server ≤ length d.links
+    → LivesIf server d (rule s d).client (rule s d).acts (Unit {0}) (tick_here (s == server)))
+    → LivesIf server c (each_server rule count c).client (each_server rule count c).acts (Unit {0}) (ticks_up server count)
+unfolding each_server
+each_ticks rule zero server c to each = lives_nothing server c
+each_ticks rule (suc count) server c to each =
+    let did : ClientDid = each_server rule count c in
+    let first : LivesIf server c did.client did.acts (Unit {0}) (ticks_up server count) = each_ticks rule count server c to each in
+    let same : length did.client.links ≡ length c.links = first.count in
+    lives_more server c (rule (count + 1) did.client).client (did.acts ++ (rule (count + 1) did.client).acts)
+    (Unit {0} × Unit {0}) (Unit {0}) (ticks_up server count + tick_here (count + 1 == server))
+    (ticks_up server count + tick_here (count + 1 == server)) (λ g. (tt, tt)) (omega arith)
+    (lives_both server c did.client (rule (count + 1) did.client).client did.acts (rule (count + 1) did.client).acts
+    (Unit {0}) (Unit {0}) (ticks_up server count) (tick_here (count + 1 == server)) first
+    (each (count + 1) did.client (omega arith) (omega arith)))
 
 each_lives : (rule : ℕ → ClientState → ClientDid) (count server : ℕ) (c : ClientState) → server ≤ length c.links
     → ((s : ℕ) (d : ClientState) → 1 ≤ s → server ≤ length d.links → Lives server d (rule s d).client (rule s d).acts)
@@ -257,7 +371,8 @@ unfolding told_mode
 mode_lives s server c known from to =
     let h : alone.Happening = alone.Wants (wanted s c.core) in
     lives_if server (is_ready (link_of s c)) c (linked_by s (alone.after h (link_of s c)) c)
-    (linked_lives s server h c known from to refl (wanted_test (is_active c.core.active s) c.core.mode))
+    (linked_lives s server h c 0 known from to refl (wanted_test (is_active c.core.active s) c.core.mode) tt
+    (λ is. omega arith))
 
 modes_live : (server : ℕ) (c : ClientState) → 1 ≤ server → server ≤ length c.links
     → Lives server c (modes_told c).client (modes_told c).acts
@@ -297,19 +412,21 @@ settled_lives (suc most) ready server c from to =
 -- it tells and says nothing
 silent_test : (s server : ℕ) (h : alone.Happening) (c : ClientState) → (s - 1 ≡ server - 1) ⊎ (s - 1 ≢ server - 1)
     → 1 ≤ server → server ≤ length c.links → begun_by h ++ map Put (alone.after h (link_of server c)).said ≡ []
-    → (alone.after h (link_of server c)).notices ≡ [] → IsNoWish Disabled h
-    → Lives server c (with_link s (alone.after h (link_of s c)).link c) []
-silent_test s server h c (inl same) from to unsaid untold wish = record {
+    → (alone.after h (link_of server c)).notices ≡ [] → IsNoWish Disabled h → IsAwaited h (link_of server c)
+    → tick_at h ≡ 0 → Lives server c (with_link s (alone.after h (link_of s c)).link c) []
+silent_test s server h c (inl same) from to unsaid untold wish awaited untimed = record {
   happenings = h ∷ [];
   link = set_here s server (alone.after h (link_of s c)).link c same from to
       ∙ ap (λ n. (alone.after h (slice_index_or c.links n (new_link (link_config c.config)))).link) same;
   told = sym (append-nil (alone.after h (link_of server c)).notices ∙ untold);
   passed = sym (append-nil (begun_by h ++ map Put (alone.after h (link_of server c)).said) ∙ unsaid);
   ordinary = λ is. (wish, tt);
+  awaited = λ g. (awaited, tt);
+  ticks = omega (arith, untimed);
   count = length-set c.links (s - 1) (alone.after h (link_of s c)).link;
   mode = refl;
 }
-silent_test s server h c (inr apart) from to unsaid untold wish =
+silent_test s server h c (inr apart) from to unsaid untold wish awaited untimed =
     lives_beside server c (with_link s (alone.after h (link_of s c)).link c) []
     (set_beside s server (alone.after h (link_of s c)).link c apart) refl refl
     (length-set c.links (s - 1) (alone.after h (link_of s c)).link) refl
@@ -324,7 +441,7 @@ silent_then server c one next first second = lives_then server c one next [] [] 
 dials_live : (s server : ℕ) (c : ClientState) → 1 ≤ server → server ≤ length c.links → Lives server c (dials_at s c) []
 dials_live s server c from to =
     silent_if (opening.may_dial (link_of s c)) server c (with_link s (opening.dials (link_of s c)) c)
-    (silent_test s server alone.Dials c (same_or_not (s - 1) (server - 1) _ refl) from to refl refl tt)
+    (silent_test s server alone.Dials c (same_or_not (s - 1) (server - 1) _ refl) from to refl refl tt tt refl)
 
 among_live : (count server : ℕ) (c : ClientState) → 1 ≤ server → server ≤ length c.links
     → Lives server c (dials_among count c) []
@@ -358,26 +475,35 @@ dialled_lives server c from to =
 wish_lives : (s server : ℕ) (c : ClientState) → 1 ≤ server → server ≤ length c.links → Lives server c (without_wish s c) []
 wish_lives s server c from to =
     silent_if (is_server s c) server c (with_link s (alone.wish_taken (link_of s c)) c)
-    (silent_test s server alone.Takes c (same_or_not (s - 1) (server - 1) _ refl) from to refl refl tt)
+    (silent_test s server alone.Takes c (same_or_not (s - 1) (server - 1) _ refl) from to refl refl tt tt refl)
 
 -- ---- events
+
+tick_own : (s server ms : ℕ) → s ≡ server → (b : Bool) → (s == server) ≡ b → tick_at (alone.Ticks ms) ≤ tick_here b
+tick_own s server ms is true e = tick_one ms (ms == 0)
+  where
+    tick_one : (ms : ℕ) (b : Bool) → (if b then 0 else 1) ≤ 1
+    tick_one ms true = omega arith
+    tick_one ms false = omega arith
+tick_own s server ms is false e = absurd (grind (arith, nat_tests))
 
 server_test : (s count : ℕ) (p q : Bool) → nat_le 1 s ≡ p → nat_le s count ≡ q → (p && q) ≡ true → 1 ≤ s
 server_test s count true true e f h = grind (arith, nat_tests)
 server_test s count true false e f h = absurd cc
 server_test s count false q e f h = absurd cc
 
-server_is : (s : ℕ) (c : ClientState) → is_server s c ≡ true → 1 ≤ s
+pub server_is : (s : ℕ) (c : ClientState) → is_server s c ≡ true → 1 ≤ s
 server_is s c h = server_test s (length c.links) _ _ refl refl h
 
 -- it happens, and a link does what follows
 happens_live : (h : Happening) (server : ℕ) (c : ClientState) → is_known h c ≡ true → 1 ≤ server → server ≤ length c.links
-    → Lives server c (and_then (happens h) (happening h c)).client (and_then (happens h) (happening h c)).acts
+    → LivesIf server c (and_then (happens h) (happening h c)).client (and_then (happens h) (happening h c)).acts
+    (IsAwaitedAt server (Goes h) c) (tick_by h)
 happens_live (Opens s) server c known from to =
     let lives = linked_test s server (alone.Opens (Some (endpoint s (counted c)))) (Happened (Opens s) ∷ []) (counted c)
-    (s == server) refl (server_is s c known) from to refl
+    (IsAwaitedAt server (Goes (Opens s)) c) 0 (s == server) refl (server_is s c known) from to refl
     (λ e. ap (λ b. (if b then Opened ∷ [] else []) ++ []) e) (λ e. ap (λ b. (if b then Opened ∷ [] else []) ++ []) e)
-    (λ is. tt) in record {
+    (λ is. tt) (λ g is. g is) (λ is. omega arith) in record {
       happenings = lives.happenings;
       link = lives.link;
       told = lives.told;
@@ -385,20 +511,26 @@ happens_live (Opens s) server c known from to =
       ordinary = lives.ordinary;
       count = lives.count;
       mode = lives.mode;
+      awaited = lives.awaited;
+      ticks = lives.ticks;
     }
 happens_live (Refuses s) server c known from to =
-    linked_test s server alone.Refuses (Happened (Refuses s) ∷ []) c (s == server) refl (server_is s c known) from to refl
-    (λ e. refl) (λ e. refl) (λ is. tt)
+    linked_test s server alone.Refuses (Happened (Refuses s) ∷ []) c (Unit {0}) 0 (s == server) refl (server_is s c known)
+    from to refl (λ e. refl) (λ e. refl) (λ is. tt) (λ g is. tt) (λ is. omega arith)
 happens_live (Hears s h) server c known from to =
-    linked_test s server (alone.Hears h) (Happened (Hears s h) ∷ []) c (s == server) refl (server_is s c known) from to refl
+    linked_test s server (alone.Hears h) (Happened (Hears s h) ∷ []) c (IsAwaitedAt server (Goes (Hears s h)) c) 0
+    (s == server) refl (server_is s c known) from to refl
     (λ e. ap (λ b. (if b then Took h ∷ [] else []) ++ []) e) (λ e. ap (λ b. (if b then Took h ∷ [] else []) ++ []) e)
-    (λ is. tt)
+    (λ is. tt) (λ g is. g is) (λ is. omega arith)
 happens_live (Closes s) server c known from to =
-    linked_test s server alone.Closes (Happened (Closes s) ∷ []) c (s == server) refl (server_is s c known) from to refl
-    (λ e. refl) (λ e. refl) (λ is. tt)
+    linked_test s server alone.Closes (Happened (Closes s) ∷ []) c (Unit {0}) 0 (s == server) refl (server_is s c known)
+    from to refl (λ e. refl) (λ e. refl) (λ is. tt) (λ g is. tt) (λ is. omega arith)
 happens_live (Ticks ms) server c known from to =
-    let lives = each_lives (λ s d. linked_by s (alone.after (alone.Ticks ms) (link_of s d)) d) (length c.links) server c to
-    (λ s d of within. linked_lives s server (alone.Ticks ms) d of from within refl (λ is. tt)) in record {
+    let lives = each_ticks (λ s d. linked_by s (alone.after (alone.Ticks ms) (link_of s d)) d) (length c.links) server c to
+    (λ s d of within. linked_lives s server (alone.Ticks ms) d (tick_here (s == server)) of from within refl (λ is. tt) tt
+    (λ is. tick_own s server ms is (s == server) refl)) in
+    let few : ticks_in lives.happenings ≤ ticks_up server (length c.links) = lives.ticks in
+    let one : ticks_up server (length c.links) ≤ 1 = one_up server (length c.links) in record {
       happenings = lives.happenings;
       link = lives.link;
       told = lives.told;
@@ -406,39 +538,46 @@ happens_live (Ticks ms) server c known from to =
       ordinary = lives.ordinary;
       count = lives.count;
       mode = lives.mode;
+      awaited = lives.awaited;
+      ticks = omega (arith, few, one);
     }
 
 after_test : (b : Bool) (h : Happening) (server : ℕ) (c : ClientState) → is_known h c ≡ b → 1 ≤ server → server ≤ length c.links
-    → Lives server c (if b then and_then settled (and_then (happens h) (happening h c)) else nothing c).client
+    → LivesIf server c (if b then and_then settled (and_then (happens h) (happening h c)) else nothing c).client
     (if b then and_then settled (and_then (happens h) (happening h c)) else nothing c).acts
-after_test false h server c e from to = lives_nothing server c
+    (IsAwaitedAt server (Goes h) c) (tick_by h)
+after_test false h server c e from to =
+    nothing_if (IsAwaitedAt server (Goes h) c) (tick_by h) server c
 after_test true h server c e from to =
     let did : ClientDid = and_then (happens h) (happening h c) in
-    let first : Lives server c did.client did.acts = happens_live h server c e from to in
+    let first : LivesIf server c did.client did.acts (IsAwaitedAt server (Goes h) c) (tick_by h) =
+    happens_live h server c e from to in
     let same : length did.client.links ≡ length c.links = first.count in
-    lives_then server c did.client (settled did.client).client did.acts (settled did.client).acts first
+    lives_behind server c did.client (settled did.client).client did.acts (settled did.client).acts
+    (IsAwaitedAt server (Goes h) c) (tick_by h) first
     (settled_lives (length did.client.links + 1) (ready_of did.client) server did.client from (omega arith))
 
 after_lives : (h : Happening) (server : ℕ) (c : ClientState) → 1 ≤ server → server ≤ length c.links
-    → Lives server c (after h c).client (after h c).acts
+    → LivesIf server c (after h c).client (after h c).acts (IsAwaitedAt server (Goes h) c) (tick_by h)
 unfolding after
 after_lives h server c from to = after_test (is_known h c) h server c refl from to
 
 moment_lives : (m : Moment) (server : ℕ) (c : ClientState) → 1 ≤ server → server ≤ length c.links
-    → Lives server c (at_moment m c).client (at_moment m c).acts
+    → LivesIf server c (at_moment m c).client (at_moment m c).acts (IsAwaitedAt server m c) (tick_of m)
 moment_lives (Goes h) server c from to = after_lives h server c from to
 moment_lives Ends server c from to = dialled_lives server c from to
 moment_lives (Takes s) server c from to = wish_lives s server c from to
 
 all_live : (moments : List Moment) (server : ℕ) (c : ClientState) → 1 ≤ server → server ≤ length c.links
-    → Lives server c (after_all moments c).client (after_all moments c).acts
+    → LivesIf server c (after_all moments c).client (after_all moments c).acts (AreAwaited server moments c) (ticks_at moments)
 unfolding after_all
 all_live [] server c from to = lives_nothing server c
 all_live (m ∷ moments) server c from to =
     let did : ClientDid = at_moment m c in
-    let first : Lives server c did.client did.acts = moment_lives m server c from to in
+    let first : LivesIf server c did.client did.acts (IsAwaitedAt server m c) (tick_of m) = moment_lives m server c from to in
     let same : length did.client.links ≡ length c.links = first.count in
-    lives_then server c did.client (after_all moments did.client).client did.acts (after_all moments did.client).acts first
+    lives_both server c did.client (after_all moments did.client).client did.acts (after_all moments did.client).acts
+    (IsAwaitedAt server m c) (AreAwaited server moments did.client) (tick_of m) (ticks_at moments) first
     (all_live moments server did.client from (omega arith))
 
 -- ---- a life
@@ -454,12 +593,17 @@ links_live config moments server from to =
     let is : link_of server start ≡ begun = get_or-replicate (servers_of config) (server - 1) begun begun (omega arith) in
     let first : Lives server start one [] = dialled_lives server start from (omega arith) in
     let same : length one.links ≡ length start.links = first.count in
-    let all : Lives server start (client_after config moments) (acts_of config moments) =
-    lives_then server start one (client_after config moments) [] (acts_of config moments) first
-    (all_live moments server one from (omega arith)) in record {
+    let given : Type 0 = AreAwaited server moments one in
+    let all : LivesIf server start (client_after config moments) (acts_of config moments) (Unit {0} × given)
+    (0 + ticks_at moments) =
+    lives_both server start one (client_after config moments) [] (acts_of config moments) (Unit {0}) given 0 (ticks_at moments)
+    first (all_live moments server one from (omega arith)) in
+    let few : ticks_in all.happenings ≤ 0 + ticks_at moments = all.ticks in record {
       happenings = all.happenings;
       link = all.link ∙ ap (λ (l : LinkState). (alone.after_all all.happenings l).link) is;
       told = all.told ∙ ap (λ (l : LinkState). (alone.after_all all.happenings l).notices) is;
       passed = all.passed ∙ ap (passed_by all.happenings) is;
       ordinary = all.ordinary;
+      awaited = λ g. subst (AllAwaited all.happenings) is (all.awaited (tt, g));
+      ticks = omega (arith, few);
     }

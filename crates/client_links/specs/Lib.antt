@@ -1,3 +1,4 @@
 pub mod Links
 pub mod Feeding
 pub mod Switching
+pub mod Awaited

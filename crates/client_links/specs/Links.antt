@@ -1,5 +1,5 @@
 -- What a client's acts tell of one server, and the life of a link alone that it is.
-use Rattle.std.specs.Prelude.{◌≡◌, ◌⊎◌, ℕ, ◌==◌, List, [], ◌∷◌, ◌++◌, map, if◌then◌else◌}
+use Rattle.std.specs.Prelude.{◌≡◌, ◌⊎◌, ◌≤◌, ℕ, ◌+◌, ◌==◌, List, [], ◌∷◌, ◌++◌, map, if◌then◌else◌}
 use Rattle.ua_base.specs.declared.modes.Mode.TheVariants.{Disabled}
 use Rattle.ua_base.specs.declared.modes.SetMode.{SetMode}
 use Rattle.ua_base.specs.declared.modes.SetMode.TheVariants.{Hot, Cold}
@@ -9,11 +9,13 @@ use Rattle.link_rules.specs.State.{LinkState, new_link}
 use Rattle.link_rules.specs.Said.{Said}
 use Rattle.link_rules.specs.Step as alone
 use Rattle.link_laws.specs.Asked.{NeverWants}
+use Rattle.link_laws.specs.Counted.{ticks_in}
 use Rattle.client_rules.specs.declared.config.ClientConfig.{ClientConfig}
 use Rattle.client_rules.specs.State.{link_config, link_of}
-use Rattle.client_rules.specs.Acts.{ClientAct, Happening, Happened, Tells, Says, Opens, Hears}
-use Rattle.client_rules.specs.Step.{Moment}
+use Rattle.client_rules.specs.Acts.{ClientAct, Happening, Happened, Tells, Says, Opens, Hears, Ticks}
+use Rattle.client_rules.specs.Step.{Ends, Goes, Moment, Takes, new_client}
 use Rattle.client_laws.specs.Life.{acts_of, client_after}
+use Rattle.client_links.specs.Awaited.{AllAwaited, AreAwaited}
 
 -- ---- what its link tells
 
@@ -61,6 +63,22 @@ passed_by [] l = []
 passed_by (h ∷ more) l =
     begun_by h ++ map Put (alone.after h l).said ++ passed_by more (alone.after h l).link
 
+-- ---- time
+
+abbrev pub tick_by : Happening → ℕ
+tick_by (Ticks ms) = 1
+tick_by other = 0
+
+abbrev pub tick_of : Moment → ℕ
+tick_of (Goes happening) = tick_by happening
+tick_of Ends = 0
+tick_of (Takes other) = 0
+
+-- at how many of these moments time passes
+abbrev pub ticks_at : List Moment → ℕ
+ticks_at [] = 0
+ticks_at (moment ∷ moments) = tick_of moment + ticks_at moments
+
 -- ---- a life
 
 -- in these no server's items are ever wanted to be off
@@ -68,7 +86,8 @@ abbrev pub IsHotOrCold : SetMode → Type 0
 IsHotOrCold set = (set ≡ Hot) ⊎ (set ≡ Cold)
 
 -- these happenings make of a link that begins what the client's link to the server is, with all that is told of it and all
--- that passes
+-- that passes; and what comes to the link is awaited where what comes to the client is, and time passes
+-- for it at most as often as for the client
 pub record IsLinkLife (server : ℕ) (config : ClientConfig) (moments : List Moment) : Type 0 where
   pub happenings : List alone.Happening
   pub link : link_of server (client_after config moments)
@@ -77,3 +96,5 @@ pub record IsLinkLife (server : ℕ) (config : ClientConfig) (moments : List Mom
       ≡ (alone.after_all happenings (new_link (link_config config))).notices
   pub passed : passed_in server (acts_of config moments) ≡ passed_by happenings (new_link (link_config config))
   pub ordinary : IsHotOrCold config.mode → NeverWants Disabled happenings
+  pub awaited : AreAwaited server moments (new_client config) → AllAwaited happenings (new_link (link_config config))
+  pub ticks : ticks_in happenings ≤ ticks_at moments

@@ -7,5 +7,5 @@ mod links;
 mod switching;
 
 pub use feeding::linked_values_feed_the_log;
-pub use links::links_live_in_clients;
+pub use links::{links_live_in_clients, others_tell_nothing};
 pub use switching::switch_lines_are_switches;

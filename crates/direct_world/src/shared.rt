@@ -7,8 +7,8 @@ ghost use Rattle.direct_world.specs.World.{appended};
 use set_model::{Change, MOST_PICO, SourceFault, SourceLog};
 use ua_base::OutOfMemory;
 
-/// Appends a change to the source, unless it can't be one of it: a full source, a stamp that doesn't rise or a value that
-/// stays the same leave the source as it was.
+/// Appends a change to the source, unless it can't be one of it: a full source, picoseconds above 9999, a stamp that
+/// doesn't rise or a value that stays the same leave the source as it was.
 ///
 /// # Errors
 /// Want of memory alone.

@@ -43,7 +43,7 @@ asks_none Renewal l h = refl
 
 asks_items : (id : ℕ) (l : LinkState) → (r : CreateMonitoredItemsRequest) × (items_asked (told_of (Items id) l) ≡ r ∷ []) × IsStandard id l.config r
 unfolding items_request
-asks_items id l = (_, refl, record { subscription = refl; items = refl })
+asks_items id l = (_, refl, record { subscription = refl; items = refl; times = refl })
 
 -- ---- lists
 

@@ -60,10 +60,12 @@ abbrev pub items_put : List Said → List CreateMonitoredItemsRequest
 items_put [] = []
 items_put (said ∷ more) = items_asked said.told ++ items_put more
 
--- for all items of the configuration, from 1 on, each under its number, with the resting mode and the configured queue
+-- for all items of the configuration, from 1 on, each under its number, with the resting mode and the configured queue; and
+-- for their source times (OPC 10000-4, 7.39)
 pub record IsStandard (id : ℕ) (config : LinkConfig) (r : CreateMonitoredItemsRequest) : Type 0 where
   pub subscription : r.subscription_id ≡ id
   pub items : r.items_to_create ≡ item_requests config config.items
+  pub times : r.timestamps_to_return ≡ pos 0
 
 -- none, or one of the subscription of this id, where there is one
 abbrev pub MakesItems : Option ℕ → LinkConfig → List CreateMonitoredItemsRequest → Type 0

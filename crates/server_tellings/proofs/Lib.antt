@@ -1,7 +1,7 @@
 mod Within
-mod Hearing
-mod Sending
+pub mod Hearing
+pub mod Sending
 mod Carrying
 mod Serving
 mod Keeping
-mod Repeating
+pub mod Repeating

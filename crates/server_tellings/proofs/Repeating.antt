@@ -123,13 +123,13 @@ moves_repeat message leave (move ∷ moves) c may h =
 
 -- ---- and so a Republish was taken
 
-record IsRepublish (happening : Happening) : Type 0 where
-  conn : ℕ
-  number : ℕ
-  body : List ℕ
-  is : happening ≡ asks conn number body
-  asked : RepublishRequest
-  reads : request_at body ≡ Ok (request.Subscription (sub_request.Republish asked))
+pub record IsRepublish (happening : Happening) : Type 0 where
+  pub conn : ℕ
+  pub number : ℕ
+  pub body : List ℕ
+  pub is : happening ≡ asks conn number body
+  pub asked : RepublishRequest
+  pub reads : request_at body ≡ Ok (request.Subscription (sub_request.Republish asked))
 
 by_sub : (conn number : ℕ) (body : List ℕ) (r : SubRequest) → request_at body ≡ Ok (request.Subscription r) → IsRepeating (leave_of_sub r)
     → IsRepublish (asks conn number body)
@@ -160,6 +160,14 @@ republishes _ may = absurd may
 abbrev pub ComesSo : Type 0
 ComesSo = (happening : Happening) (s : ServerState) → Comes (leave_of happening) s (after happening s)
 
+pub republish_then : ComesSo → (happening : Happening) (s : ServerState) (message : NotificationMessage)
+    → IsWithin (Repeated message ∷ []) (facts_said (after happening s).said) → IsRepublish happening
+republish_then comes happening s message said =
+    let step = comes happening s in
+    let all : IsWithin (Repeated message ∷ []) (facts_of_all step.moves (core_of s)) =
+    within_trans (Repeated message ∷ []) (facts_said (after happening s).said) (facts_of_all step.moves (core_of s)) said step.told in
+    republishes happening (moves_repeat message (leave_of happening) step.moves (core_of s) step.may all)
+
 pub kept_so : ComesSo → (config : ServerConfig) (current : List Change) (happenings : List Happening) (message : NotificationMessage)
     → IsWithin (Repeated message ∷ []) (facts_said (said_after happenings (new_server config current)))
     → IsKeptMessage message happenings (new_server config current)
@@ -167,10 +175,7 @@ kept_so comes config current happenings message h =
     let s : ServerState = new_server config current in
     let one = moment (Repeated message) happenings s h in
     let t : ServerState = state_after one.earlier s in
-    let step = comes one.happening t in
-    let all : IsWithin (Repeated message ∷ []) (facts_of_all step.moves (core_of t)) =
-    within_trans (Repeated message ∷ []) (facts_said (after one.happening t).said) (facts_of_all step.moves (core_of t)) one.said step.told in
-    let r = republishes one.happening (moves_repeat message (leave_of one.happening) step.moves (core_of t) step.may all) in
+    let r = republish_then comes one.happening t message one.said in
     let again : IsWithin (Repeated message ∷ []) (facts_said (after (asks r.conn r.number r.body) t).said) =
     subst (λ happening. IsWithin (Repeated message ∷ []) (facts_said (after happening t).said)) r.is one.said in
     let kept = kept_then r.conn r.number r.body r.asked t r.reads message again in

@@ -7,6 +7,7 @@ use Rattle.ua_channel.specs.declared.wire.Order.{Order}
 use Rattle.ua_channel.specs.State.{WireState, is_deaf}
 use Rattle.ua_channel.specs.Messages.{hearing_of}
 use Rattle.ua_channel.specs.Sharing.{own}
+use Rattle.ua_channel.specs.Orders.{puts_of}
 use Rattle.message_ends.specs.Ends.{MessageEnd, MessageEnds, emptied_by, out_by, set_end}
 use Rattle.message_ends.specs.Talk as talks
 use Rattle.message_ends.specs.Talk.{out_of, without_out}
@@ -27,7 +28,7 @@ use Rattle.set_messages.specs.Nodes.{Client}
 use Rattle.set_fronts.specs.Noting.{Talked, nothing_talked, on_last as on_talked, puts, takes}
 use Rattle.set_histories.specs.Heard.{AreHeardOf, IsHeardOf}
 use Rattle.set_histories.specs.Histories.{AreDialled}
-use Rattle.set_histories.specs.Lives.{Dial, dialled_at, dialled_by, dials_after, dials_with, new_dial, on_last, puts_of}
+use Rattle.set_histories.specs.Lives.{Dial, dialled_at, dialled_by, dials_after, dials_with, new_dial, on_last}
 use Rattle.set_histories.specs.Recording.{learned_here, learned_in}
 use Rattle.set_histories.proofs.Closing.{Closes, after_closes, closes_deaf, dialled_closes}
 use Rattle.set_histories.proofs.Ends.{grown, has_heard, obeyed_outs, outs, set_other, set_same, settled_out}

@@ -8,10 +8,10 @@ use Rattle.ua_channel.specs.declared.heard.Heard.{Heard}
 use Rattle.ua_channel.specs.State.{WireState, is_deaf}
 use Rattle.ua_channel.specs.Messages.{hearing_of}
 use Rattle.ua_channel.specs.Sharing.{own}
+use Rattle.ua_channel.specs.Orders.{put_by, puts_of}
 use Rattle.message_ends.specs.Ends.{MessageEnd, MessageEnds, obeyed, obeyed_all, obeyed_by, set_end}
 use Rattle.message_ends.specs.Talk.{Talk, judged, settled_by, told}
 use Rattle.message_ends.proofs.Lookups.{number_is, same_number}
-use Rattle.set_histories.specs.Lives.{put_by, puts_of}
 
 -- the messages of an end, if one stands
 abbrev pub outs : Option MessageEnd → Option (List WireState)

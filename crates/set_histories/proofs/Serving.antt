@@ -7,6 +7,7 @@ use Rattle.ua_channel.specs.declared.wire.Order.{Order}
 use Rattle.ua_channel.specs.State.{WireState, is_deaf}
 use Rattle.ua_channel.specs.Messages.{hearing_of}
 use Rattle.ua_channel.specs.Sharing.{own}
+use Rattle.ua_channel.specs.Orders.{puts_of}
 use Rattle.message_ends.specs.Ends.{MessageEnd, emptied_by, out_by, new_end, set_end}
 use Rattle.message_ends.specs.Talk.{heard_all, heard_by, heard_one, judged, out_of, without_out}
 use Rattle.server_rules.specs.Connecting as connecting
@@ -23,7 +24,7 @@ use Rattle.server_messages.specs.Messages.{answers, closed, end_closed, end_open
 use Rattle.server_messages.proofs.Deafness.{stays_deaf}
 use Rattle.set_fronts.specs.Noting.{Accepted, Talked, nothing_talked, puts, takes}
 use Rattle.set_histories.specs.Heard.{AreHeardOf, IsHeardOf}
-use Rattle.set_histories.specs.Lives.{heard_by as heard_then, heard_on, put_on, puts_of}
+use Rattle.set_histories.specs.Lives.{heard_by as heard_then, heard_on, put_on}
 use Rattle.set_messages.specs.Nodes.{Server}
 use Rattle.set_fronts.specs.Fronts.{IsFront}
 use Rattle.set_histories.specs.Recording.{closes_in, heard_here, heard_in, opens_in}

@@ -1,9 +1,8 @@
 -- What passes on the connections of a server's life, and of a client, told by all that happened to them.
 use Rattle.std.specs.Prelude.{ℕ, ◌==◌, List, [], ◌∷◌, ◌++◌, if◌then◌else◌}
 use Rattle.ua_channel.specs.declared.heard.Heard.{Heard}
-use Rattle.ua_channel.specs.declared.wire.Order.{Order}
-use Rattle.ua_channel.specs.declared.wire.Order.TheVariants as order
 use Rattle.ua_channel.specs.State.{WireState}
+use Rattle.ua_channel.specs.Orders.{puts_of}
 use Rattle.ua_channel.specs.Sharing.{own}
 use Rattle.server_rules.specs.State.{ServerState}
 use Rattle.server_rules.specs.Said.{orders_of}
@@ -12,18 +11,6 @@ use Rattle.server_laws.specs.Course.{said_after}
 use Rattle.client_rules.specs.State.{ClientState}
 use Rattle.client_rules.specs.Acts as client
 use Rattle.client_rules.specs.Step.{Ends, Goes, Moment, Takes, at_moment}
-
--- ---- orders
-
-abbrev pub put_by : Order → List WireState
-put_by (order.Put wire) = wire ∷ []
-put_by (order.Limit limits) = []
-put_by (order.Renew channel token) = []
-
--- the messages that these orders put, in order
-abbrev pub puts_of : List Order → List WireState
-puts_of [] = []
-puts_of (o ∷ orders) = put_by o ++ puts_of orders
 
 -- ---- a server's life, of which all that happened is told newest first
 

@@ -84,6 +84,16 @@ abbrev pub obeyed_all : List Order → ChannelState → ChannelState
 obeyed_all [] c = c
 obeyed_all (o ∷ orders) c = obeyed_all orders (obeyed o c)
 
+-- the messages that orders put, in their order
+abbrev pub put_by : Order → List WireState
+put_by (order.Put w) = w ∷ []
+put_by (order.Limit l) = []
+put_by (order.Renew channel token) = []
+
+abbrev pub puts_of : List Order → List WireState
+puts_of [] = []
+puts_of (o ∷ orders) = put_by o ++ puts_of orders
+
 abbrev pub size_of : Order → ℕ
 size_of (order.Put w) = length w.body
 size_of (order.Limit l) = 0
