@@ -1,0 +1,5 @@
+pub mod Places
+pub mod Putting
+pub mod Ending
+pub mod Turning
+pub mod Repeating
