@@ -1,0 +1,3 @@
+pub mod Attending
+pub mod Awaiting
+pub mod Dialling

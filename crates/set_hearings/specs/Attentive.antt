@@ -1,0 +1,42 @@
+-- What comes to a server's life is heard on a connection that it accepted and that isn't deaf.
+use Rattle.std.specs.Prelude.{◌≡◌, ℕ, false, List, [], ◌∷◌, ◌++◌}
+use Rattle.ua_base.specs.declared.modes.SetMode.{SetMode}
+use Rattle.ua_channel.specs.State.{WireState, is_deaf}
+use Rattle.server_rules.specs.State.{ServerState, new_server}
+use Rattle.server_rules.specs.Acts.{state_after}
+use Rattle.server_rules.specs.Step as server
+use Rattle.set_world.specs.Texts.{server_config}
+use Rattle.set_fronts.specs.Noting.{Accepted, NotedLife}
+use Rattle.set_histories.specs.Recording.{RecordedLife}
+
+-- each message is heard where its connection isn't deaf; what happened is told newest first
+abbrev pub AreHeard : List server.Happening → ServerState → Type 0
+AreHeard [] s = Unit {0}
+AreHeard (server.Hears conn h ∷ earlier) s = (is_deaf (server.ears conn (state_after earlier s)) ≡ false) × AreHeard earlier s
+AreHeard (other ∷ earlier) s = AreHeard earlier s
+
+-- the number is one of these
+abbrev pub IsIn : ℕ → List ℕ → Type 0
+IsIn number numbers = (before : List ℕ) × (after : List ℕ) × (numbers ≡ before ++ number ∷ after)
+
+-- each message is heard on one of these connections
+abbrev pub AreOn : List ℕ → List server.Happening → Type 0
+AreOn numbers [] = Unit {0}
+AreOn numbers (server.Hears conn h ∷ earlier) = IsIn conn numbers × AreOn numbers earlier
+AreOn numbers (other ∷ earlier) = AreOn numbers earlier
+
+-- the numbers of connections
+abbrev pub numbers_of : List (Accepted WireState) → List ℕ
+numbers_of [] = []
+numbers_of (a ∷ earlier) = a.number ∷ numbers_of earlier
+
+-- a life hears on its own connections alone, and on none that is deaf
+pub record IsAttentive (mode : SetMode) (servers items number : ℕ) (life : NotedLife RecordedLife WireState) : Type 0 where
+  pub heard : AreHeard life.node.happenings (new_server (server_config mode servers items number life.boot) life.current)
+  pub on : AreOn (numbers_of life.connections) life.node.happenings
+
+-- each of these lives does
+abbrev pub AllAttentive : SetMode → ℕ → ℕ → ℕ → List (NotedLife RecordedLife WireState) → Type 0
+AllAttentive mode servers items number [] = Unit {0}
+AllAttentive mode servers items number (life ∷ earlier) =
+    IsAttentive mode servers items number life × AllAttentive mode servers items number earlier
