@@ -1,6 +1,6 @@
 -- The known changes of an item are neighbours of the source's.
 use Rattle.std.proofs.Common.{◌≡◌, ℕ, zero, suc, ◌+◌, ◌==◌, ◌≤◌, ◌<◌, Bool, true, false, cond, List, [], ◌∷◌, ◌++◌, length, take, drop, Option, Some, None, refl, sym, ap, subst, ◌∙◌, arith}
-use Rattle.std.specs.Prelude.{find, reverse, slice_get}
+use Rattle.std.specs.Prelude.{find, nat_le, reverse, slice_get}
 use Rattle.std.proofs.lemmas.Bool.Decides.{nat_tests}
 use Rattle.std.proofs.lemmas.List.{append-nil, append_assoc}
 use Rattle.std.proofs.lemmas.List.Elements.{filter-append}
@@ -171,23 +171,61 @@ thirds first count source = sym (ap (λ l. take first source ++ l) (halves count
 joined : (front own fed later : List Change) → (front ++ own) ++ (fed ++ later) ≡ front ++ ((own ++ fed) ++ later)
 joined front own fed later = append_assoc front own (fed ++ later) ∙ ap (λ l. front ++ l) (sym (append_assoc own fed later))
 
-pub known_part : (items : ℕ) (source : List Change) (first count item : ℕ) → 1 ≤ item → item ≤ items
+none_of_zero : (count : ℕ) (start : List Change) → of_item 0 (currents count start) ≡ []
+unfolding currents
+none_of_zero zero start = refl
+none_of_zero (suc count) start =
+    of_both 0 (currents count start) (current_of (last_of (count + 1) start))
+    ∙ ap (λ l. l ++ of_item 0 (current_of (last_of (count + 1) start))) (none_of_zero count start)
+    ∙ of_higher (count + 1) 0 (last_of (count + 1) start) (found_own (count + 1) (reverse start)) (omega arith)
+
+-- what begins with the current values of an item that has one among them, and of any other one
+record IsOwnPart (item items : ℕ) (start : List Change) : Type 0 where
+  front : List Change
+  own : List Change
+  is : of_item item start ≡ front ++ own
+  known : of_item item (currents items start) ≡ own
+
+own_of : (item items : ℕ) (start : List Change) → IsOwnPart item items start
+own_of zero items start = record {
+  front = of_item 0 start;
+  own = [];
+  is = sym (append-nil (of_item 0 start));
+  known = none_of_zero items start;
+}
+own_of (suc k) items start = by_test (nat_le (suc k) items) refl
+  where
+    by_test : (b : Bool) → nat_le (suc k) items ≡ b → IsOwnPart (suc k) items start
+    by_test true test = let x = last_ends (suc k) start in record {
+      front = x.0;
+      own = current_of (last_of (suc k) start);
+      is = x.1;
+      known = one_current (suc k) items start (omega arith) (grind (arith, nat_tests));
+    }
+    by_test false test = record {
+      front = of_item (suc k) start;
+      own = [];
+      is = sym (append-nil (of_item (suc k) start));
+      known = none_below (suc k) items start (grind (arith, nat_tests));
+    }
+
+pub known_part : (items : ℕ) (source : List Change) (first count item : ℕ)
     → IsPart (of_item item (known_of items source first count)) (of_item item source)
-known_part items source first count item one least =
+known_part items source first count item =
     let start = take first source in
     let fed = take count (drop first source) in
     let later = drop count (drop first source) in
-    let x = last_ends item start in
+    let x = own_of item items start in
     record {
-      front = x.0;
+      front = x.front;
       later = of_item item later;
       is = ap (of_item item) (thirds first count source)
           ∙ of_both item start (fed ++ later)
           ∙ ap (λ l. of_item item start ++ l) (of_both item fed later)
-          ∙ ap (λ l. l ++ (of_item item fed ++ of_item item later)) x.1
-          ∙ joined x.0 (current_of (last_of item start)) (of_item item fed) (of_item item later)
-          ∙ ap (λ l. x.0 ++ ((l ++ of_item item fed) ++ of_item item later)) (sym (one_current item items start one least))
-          ∙ ap (λ l. x.0 ++ (l ++ of_item item later)) (sym (of_both item (currents items start) fed));
+          ∙ ap (λ l. l ++ (of_item item fed ++ of_item item later)) x.is
+          ∙ joined x.front x.own (of_item item fed) (of_item item later)
+          ∙ ap (λ l. x.front ++ ((l ++ of_item item fed) ++ of_item item later)) (sym x.known)
+          ∙ ap (λ l. x.front ++ (l ++ of_item item later)) (sym (of_both item (currents items start) fed));
     }
 
 pub are_neighbours : (item : ℕ) (source known : List Change) → IsPart (of_item item known) (of_item item source) → AreNeighbours item source known

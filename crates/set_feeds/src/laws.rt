@@ -34,14 +34,14 @@ pub fn the_source_is_the_lines_changes()
 
 /// What a life knows are the current values with which it began and what it was fed. Of each item these are neighbours among
 /// the source's changes, in order. So entries that are linked as known changes are linked as changes of the source, and what
-/// stands among the known changes of an item stands among the source's.
+/// stands among the known changes of an item stands among the source's: of any item, also of one that the set doesn't have.
 pub fn known_changes_end_the_source()
-    ensures neighbours { (items : ℕ) (source : List Change) (first count item : ℕ) → 1 ≤ item → item ≤ items
+    ensures neighbours { (items : ℕ) (source : List Change) (first count item : ℕ)
         → AreNeighbours item source (known_of items source first count) }
-    ensures linked { (items : ℕ) (source : List Change) (first count item : ℕ) → 1 ≤ item → item ≤ items
+    ensures linked { (items : ℕ) (source : List Change) (first count item : ℕ)
         → (size : ℕ) (entries : List Entry) → AreLinked size (of_item item (known_of items source first count)) entries
         → AreLinked size (of_item item source) entries }
-    ensures found { (items : ℕ) (source : List Change) (first count item : ℕ) → 1 ≤ item → item ≤ items
+    ensures found { (items : ℕ) (source : List Change) (first count item : ℕ)
         → (place : ℕ) (change : Change) → slice_get (of_item item (known_of items source first count)) place ≡ Some change
         → (there : ℕ) × (slice_get (of_item item source) there ≡ Some change) }
 {}

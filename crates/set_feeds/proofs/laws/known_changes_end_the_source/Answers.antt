@@ -5,14 +5,14 @@ use Rattle.set_feeds.proofs.Known.{are_linked, are_neighbours, get_part, known_p
 use Rattle.set_feeds.proofs.laws.known_changes_end_the_source.Goals as goal
 
 pub returns-clause-neighbours : goal.returns-clause-neighbours
-returns-clause-neighbours c = λ items source first count item one least.
-    are_neighbours item source (known_of items source first count) (known_part items source first count item one least)
+returns-clause-neighbours c = λ items source first count item.
+    are_neighbours item source (known_of items source first count) (known_part items source first count item)
 
 pub returns-clause-linked : goal.returns-clause-linked
-returns-clause-linked c = λ items source first count item one least size entries.
-    are_linked size (of_item item (known_of items source first count)) (of_item item source) entries (known_part items source first count item one least)
+returns-clause-linked c = λ items source first count item size entries.
+    are_linked size (of_item item (known_of items source first count)) (of_item item source) entries (known_part items source first count item)
 
 pub returns-clause-found : goal.returns-clause-found
-returns-clause-found c = λ items source first count item one least place change is.
-    let x = known_part items source first count item one least in
+returns-clause-found c = λ items source first count item place change is.
+    let x = known_part items source first count item in
     (length x.front + place, get_part (of_item item (known_of items source first count)) (of_item item source) x place change is)
