@@ -1,0 +1,10 @@
+pub mod Changes
+pub mod Walking
+pub mod Ticking
+pub mod Sourcing
+pub mod Counting
+pub mod Talking
+pub mod Serving
+pub mod Learning
+pub mod Configs
+pub mod Fitting
