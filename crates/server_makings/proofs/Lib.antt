@@ -6,3 +6,4 @@ mod Living
 mod Having
 mod Calling
 mod Placing
+mod Keeping

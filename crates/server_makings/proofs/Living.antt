@@ -29,6 +29,7 @@ use Rattle.server_makings.specs.Asked.{AreMadeOf, AskedItem, asked_by, asked_in,
 use Rattle.server_makings.proofs.Config.{config_stays}
 use Rattle.server_makings.proofs.Creating.{MakingsOf, heard_makes, skip_one, wants_of}
 use Rattle.server_makings.proofs.Joining.{all_unmade, made_join}
+use Rattle.server_makings.proofs.Keeping.{HasFronts, fronts_more, no_fronts}
 
 -- ---- what happened last
 
@@ -151,6 +152,7 @@ made_append items (spec ∷ made) more (one ∷ wants) others (inr h) rest = inr
 pub record IsMaking (happenings : List Happening) (s : ServerState) : Type 0 where
   pub course : IsCourse happenings s
   pub made : (id : ℕ) → AreMadeOf s.config.items (made_in id course.moves) (asked_in id happenings)
+  pub fronts : HasFronts happenings s course.moves
 
 course_more : (happening : Happening) (earlier : List Happening) (s : ServerState) (one : IsCourse earlier s) (other : IsStep happening (state_after earlier s))
     → (course : IsCourse (happening ∷ earlier) s) × (course.moves ≡ one.moves ++ other.moves)
@@ -175,12 +177,15 @@ making_more happening earlier s one other =
     let both = course_more happening earlier s one.course other in
     let before : List Move = one.course.moves in
     let same : (state_after earlier s).config.items ≡ s.config.items = ap (λ (c : ServerConfig). c.items) (config_stays earlier s) in
+    let leads : core_of (state_after (happening ∷ earlier) s) ≡ moved_all (before ++ other.moves) (core_of s) =
+    both.0.leads ∙ ap (λ moves. moved_all moves (core_of s)) both.1 in
     record {
       course = both.0;
       made = λ id. subst (λ moves. AreMadeOf s.config.items (made_in id moves) (asked_in id (happening ∷ earlier))) (sym both.1)
           (subst (λ l. AreMadeOf s.config.items l (asked_in id earlier ++ asked_by id happening)) (sym (made_join id before other.moves))
           (made_append s.config.items (made_in id before) (made_in id other.moves) (asked_in id earlier) (asked_by id happening) (one.made id)
           (subst (λ n. AreMadeOf n (made_in id other.moves) (asked_by id happening)) same (other.made id))));
+      fronts = subst (HasFronts (happening ∷ earlier) s) (sym both.1) (fronts_more happening earlier s before other.moves one.fronts leads);
     }
 
 none_yet : (s : ServerState) → IsMaking [] s
@@ -188,6 +193,7 @@ unfolding state_after
 none_yet s = record {
   course = record { moves = []; fair = tt; leads = refl; told = refl; feeds = refl; asked = tt };
   made = λ id. tt;
+  fronts = no_fronts s;
 }
 
 pub making : Steps → (happenings : List Happening) (s : ServerState) → IsMaking happenings s

@@ -8,22 +8,28 @@ ghost use Rattle.server_rules.specs.State.{new_server};
 ghost use Rattle.server_rules.specs.Step.{Happening};
 ghost use Rattle.server_laws.specs.Bounded.{items_made};
 ghost use Rattle.server_laws.specs.Course.{fed_in, life_of};
+ghost use Rattle.server_laws.specs.Lives.{messages_sent};
 ghost use Rattle.server_laws.specs.Whole.{NeverOff};
 ghost use Rattle.server_chains.specs.Chains.{TellsChains, spec_of};
 ghost use Rattle.server_makings.specs.Asked.{AreMadeOf, asked_in};
+ghost use Rattle.server_makings.specs.Kept.{AreKeptOf};
 
 /// Every subscription of a life in which no SetMonitoringMode asked for Disabled tells linked entries of the items that
 /// its calls make, and these are made of those that CreateMonitoredItems asked for in it: in their order, and of each
-/// one at the most.
+/// one at the most. Whatever the subscription kept at any time of the life is one of the messages that it sent, under the
+/// number under which it was kept.
 pub fn subscriptions_tell_what_was_asked_for()
     ensures { (config : ServerConfig) (current : List Change) (happenings : List Happening) (id : ℕ)
         → let s = new_server config current in
         NeverOff happenings id
         → (tells : TellsChains id (current ++ fed_in happenings) (life_of happenings s))
-        × AreMadeOf config.items (reverse (items_made tells.calls)) (asked_in id happenings) }
+        × AreMadeOf config.items (reverse (items_made tells.calls)) (asked_in id happenings)
+        × AreKeptOf id happenings s (messages_sent tells.spec tells.start tells.calls) }
 {
-    crate::items_are_those_asked_for();
+    server_laws::subscriptions_are_calls();
     server_chains::courses_tell_linked_entries();
+    subscription::messages_are_numbered();
+    subscription::sent_messages_are_kept();
 }
 
 /// Items have the ids 1, 2, and so on, in the order in which the calls of a subscription, newest first, make them: so
