@@ -1,0 +1,5 @@
+pub mod Calling
+pub mod Passing
+pub mod Hearing
+pub mod Counting
+pub mod Asking
