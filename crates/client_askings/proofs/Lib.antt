@@ -1,0 +1,4 @@
+mod Bounds
+mod Headers
+mod Long
+mod Telling
