@@ -1,0 +1,7 @@
+mod Boots
+mod Short
+mod Fewness
+mod Keeping
+mod Entries
+mod Placing
+mod Assembling
