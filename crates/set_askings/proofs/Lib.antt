@@ -1,0 +1,6 @@
+mod Sums
+mod Hearing
+mod Making
+mod Sharing
+mod Speaking
+mod Living
