@@ -1,0 +1,4 @@
+pub mod Places
+pub mod Sending
+pub mod Repeating
+pub mod Booking
