@@ -1,0 +1,5 @@
+pub mod Lists
+pub mod Linking
+pub mod Quieting
+pub mod Services
+pub mod Reading
