@@ -1,0 +1,10 @@
+mod Lists
+mod Finding
+mod Bound
+mod Lives
+mod Passing
+mod Linking
+mod Meeting
+mod Joining
+mod Ordering
+mod Having
