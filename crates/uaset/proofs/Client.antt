@@ -45,7 +45,7 @@ defined_is Hot lines other = refl
 defined_is Warm lines other = refl
 defined_is Cold lines other = refl
 
-log_is : HaveHistories → (lines : List Line) → (size_of lines).mode ≢ Direct
+pub log_is : HaveHistories → (lines : List Line) → (size_of lines).mode ≢ Direct
     → defined_log lines ≡ (client_after (config_of lines) (moments_of lines)).log.lines
 unfolding log_over_messages
 log_is have lines other =

@@ -49,7 +49,7 @@ line_fits rules before (line.Change change) stands = change_fits (items_in befor
 line_fits rules before (line.Level server level) stands = let few = stands.suit.1.1 in omega (arith, few)
 line_fits rules before other stands = tt
 
-lines_fit : (rules : Rules) (before lines : List Line) → AllStand rules before lines → AllByRecursion FitsLine lines
+pub lines_fit : (rules : Rules) (before lines : List Line) → AllStand rules before lines → AllByRecursion FitsLine lines
 lines_fit rules before [] stand = tt
 lines_fit rules before (l ∷ lines) stand = (line_fits rules before l stand.0, lines_fit rules (before ++ l ∷ []) lines stand.1)
 

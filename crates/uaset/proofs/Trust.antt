@@ -23,6 +23,7 @@ use Rattle.uaset.specs.Answer.{answer_of, answer_by, client_log, past_of, size_o
 use Rattle.uaset.specs.declared.words.Command.TheVariants as command
 use Rattle.uaset.specs.Commands.{IsTrustworthy, Means}
 use Rattle.uaset.proofs.Client.{OfClients}
+use Rattle.uaset.proofs.Delivery.{Delivers, ReadsHad}
 use Rattle.uaset.proofs.Messages.{OnlyStanding, ShowsBytes, direct_log, same_log}
 
 -- a scenario's queues have from 2 to 1000 places
@@ -69,17 +70,19 @@ trustworthy rules bytes lines h direct =
 ok_is : (report text : List ℕ) → ◌≡◌ {A = Result (List ℕ) ScenarioFault} (Ok report) (Ok text) → text ≡ report
 ok_is report text e = cc
 
-promised : OnlyStanding → ShowsBytes → OfClients → (pool : ℕ) (bytes text : List ℕ) (scenario : Result (List Line) ScenarioFault) → scenario_of (rules_of_replay pool) bytes ≡ scenario
+promised : OnlyStanding → ShowsBytes → OfClients → ReadsHad → Delivers → (pool : ℕ) (bytes text : List ℕ) (scenario : Result (List Line) ScenarioFault) → scenario_of (rules_of_replay pool) bytes ≡ scenario
     → answer_by scenario ≡ Ok text → Means pool command.Replay bytes text
-promised standing shows clients pool bytes text (Ok lines) is h = (
+promised standing shows clients levels deliver pool bytes text (Ok lines) is h = (
   lines,
   is,
   ok_is (report_text (client_log lines)) text h ∙ ap report_text (same_log standing shows (rules_of_replay pool) bytes lines is),
   trustworthy (rules_of_replay pool) bytes lines is,
-  clients lines,
+  λ other. (clients lines other, levels pool bytes lines is),
+  deliver pool bytes lines is,
 )
-promised standing shows clients pool bytes text (Err fault) is h = absurd cc
+promised standing shows clients levels deliver pool bytes text (Err fault) is h = absurd cc
 
--- a report is that of a scenario whose log can be trusted where its set is direct, and is of its client where it is redundant
-pub report_promised : OnlyStanding → ShowsBytes → OfClients → (pool : ℕ) (bytes text : List ℕ) → answer_of pool bytes ≡ Ok text → Means pool command.Replay bytes text
-report_promised standing shows clients pool bytes text h = promised standing shows clients pool bytes text (scenario_of (rules_of_replay pool) bytes) refl h
+-- a report is that of a scenario whose log can be trusted where its set is direct, is of its client where it is redundant, and
+-- delivers the source where it is hot or cold
+pub report_promised : OnlyStanding → ShowsBytes → OfClients → ReadsHad → Delivers → (pool : ℕ) (bytes text : List ℕ) → answer_of pool bytes ≡ Ok text → Means pool command.Replay bytes text
+report_promised standing shows clients levels deliver pool bytes text h = promised standing shows clients levels deliver pool bytes text (scenario_of (rules_of_replay pool) bytes) refl h

@@ -1,21 +1,28 @@
 -- What the client's log of a redundant set is, by all that happened to the client.
-use Rattle.std.specs.Prelude.{◌≡◌, ◌≤◌, ◌++◌, ◌∷◌, ℕ, true, List}
+use Rattle.std.specs.Prelude.{◌≡◌, ◌≤◌, ◌+◌, ◌++◌, ◌∷◌, ℕ, true, List}
+use Rattle.std.specs.List.{AllByRecursion}
 use Rattle.set_model.specs.declared.line.LogLine.{LogLine}
 use Rattle.set_model.specs.declared.stamp.Stamp.{Stamp}
 use Rattle.set_model.specs.Stamp.{is_before}
 use Rattle.scenario.specs.declared.line.Line.{Line}
+use Rattle.scenario.specs.Past.{changes_in}
 use Rattle.failover_core.specs.Laws.{IsBest}
 use Rattle.delivery_log.specs.Caused.{Caused}
 use Rattle.delivery_log.specs.Reading.{AreNeighbours}
+use Rattle.delivery_log.specs.Safe.{InOrder, Safe}
 use Rattle.client_rules.specs.declared.config.ClientConfig.{ClientConfig}
 use Rattle.client_rules.specs.State.{servers_of}
 use Rattle.client_rules.specs.Acts.{ClientAct, Switches}
 use Rattle.client_rules.specs.Step.{Moment}
 use Rattle.client_laws.specs.Life.{acts_of, client_after, history_of}
 use Rattle.client_laws.specs.Choosing.{AreChoices, candidates_of, nothing_told, told_after}
+use Rattle.client_links.specs.Links.{told_of}
 use Rattle.client_links.specs.Switching.{switch_lines, switches_of}
 use Rattle.set_world.specs.Texts.{client_config}
-use Rattle.set_histories.specs.Histories.{recorded_after}
+use Rattle.set_histories.specs.Histories.{lives_after, recorded_after}
+use Rattle.set_meetings.specs.Meetings.{Life}
+use Rattle.set_meetings.specs.Noted.{lives_noted}
+use Rattle.set_levels.specs.Had.{HadLevel}
 use Rattle.uaset.specs.Answer.{defined_log, size_of}
 
 abbrev pub config_of : List Line → ClientConfig
@@ -26,6 +33,11 @@ config_of lines = let size = size_of lines in client_config size.mode size.serve
 abbrev pub moments_of : List Line → List Moment
 moments_of lines = let size = size_of lines in
     (recorded_after size.mode size.servers size.items size.queue size.oldest lines).client.node.moments
+
+-- the lives of the server at a place, newest first
+abbrev pub lives_of : ℕ → List Line → List Life
+lives_of place lines = let size = size_of lines in
+    lives_noted size.mode size.servers size.items (place + 1) (lives_after size.mode size.servers size.items size.queue size.oldest lines place)
 
 -- and what it did and was told then
 abbrev pub acts_in : List Line → List ClientAct
@@ -44,3 +56,15 @@ pub record IsOfItsClient (lines : List Line) : Type 0 where
   pub chosen : AreChoices (acts_in lines) (nothing_told (servers_of (config_of lines)))
   pub best : (front back : List ClientAct) (from to : ℕ) → acts_in lines ≡ front ++ Switches from to ∷ back → 1 ≤ to
       → let told = told_after front (nothing_told (servers_of (config_of lines))) in IsBest (candidates_of told) told.active to
+
+-- of a hot or a cold set, with the lines' own changes as the one source: each item's data lines are changes of it, each once, in
+-- source order; and wherever a change between two of them is missing, a gap line stands directly before the later one
+pub record DeliversTheSource (lines : List Line) : Type 0 where
+  pub safe : Safe (changes_in lines) (defined_log lines)
+  pub order : InOrder (changes_in lines) (defined_log lines)
+
+-- of any redundant set: each ServiceLevel that the client's link to a server told is one that a life of the server had, when it
+-- heard the Read that was answered so
+pub record ReadsLevelsHad (lines : List Line) : Type 0 where
+  pub had : (place : ℕ) → place + 1 ≤ (size_of lines).servers
+      → AllByRecursion (HadLevel (lives_of place lines)) (told_of (place + 1) (acts_in lines))

@@ -10,6 +10,7 @@ use Rattle.scenario.specs.Past.{changes_in}
 use Rattle.scenario.specs.Rules.{rules_of_replay}
 use Rattle.scenario.specs.Scenario.{scenario_of}
 use Rattle.direct_world.specs.Plain.{IsPlain}
+use Rattle.client_links.specs.Links.{IsHotOrCold}
 use Rattle.ua_variants.specs.declared.variant.Variant.{Variant}
 use Rattle.ua_variants.specs.declared.variant.Stamped.{Stamped}
 use Rattle.ua_variants.specs.Grammar.{data_value}
@@ -24,7 +25,7 @@ use Rattle.uaset.specs.declared.words.Command.TheVariants as command
 use Rattle.uaset.specs.declared.answer.Refusal.{Refusal}
 use Rattle.uaset.specs.declared.answer.Refusal.TheVariants as refusal
 use Rattle.uaset.specs.Answer.{answer_of, client_log, defined_log, past_of, size_of}
-use Rattle.uaset.specs.Client.{IsOfItsClient}
+use Rattle.uaset.specs.Client.{DeliversTheSource, IsOfItsClient, ReadsLevelsHad}
 
 -- ---- what is read
 
@@ -73,12 +74,14 @@ pub record IsTrustworthy (lines : List Line) : Type 0 where
 
 -- the text is the report of the client's log of a scenario, as the world is defined, in which nothing but whole messages is
 -- in flight; where the set is direct the log can be trusted; where it is redundant the log is what its client makes of all
--- that happened to it; or what the one value holds that the whole input spells; or a line
--- for each of the frames that the input begins with, as many as there are, and how many bytes follow
+-- that happened to it, by levels that its servers had; and where it is hot or cold the log delivers the one source, and says where it doesn't; or what the one
+-- value holds that the whole input spells; or a line for each of the frames that the input begins with, as many as there are,
+-- and how many bytes follow
 abbrev pub Means : ℕ → Command → List ℕ → List ℕ → Type 0
 Means pool command.Replay bytes text =
     (lines : List Line) × (scenario_of (rules_of_replay pool) bytes ≡ Ok lines) × (text ≡ report_text (defined_log lines))
-    × ((size_of lines).mode ≡ Direct → IsTrustworthy lines) × ((size_of lines).mode ≢ Direct → IsOfItsClient lines)
+    × ((size_of lines).mode ≡ Direct → IsTrustworthy lines) × ((size_of lines).mode ≢ Direct → IsOfItsClient lines × ReadsLevelsHad lines)
+    × (IsHotOrCold (size_of lines).mode → DeliversTheSource lines)
 Means pool command.ShowValue bytes text = (d : Stamped Variant) × data_value 101 d bytes × (text ≡ value_text d)
 Means pool command.ShowStream bytes text =
     (split : Split) × IsFramed 0 bytes split × (fault_of split.rest ≡ None) × (text ≡ stream_text split)

@@ -39,6 +39,10 @@ fn replayed(alloc: Global, bytes: &[u8], pool: usize) -> Result<Vec<u8>, Refusal
     client_laws::switches_are_choices();
     client_laws::switches_go_to_the_best();
     client_links::switch_lines_are_switches();
+    // And of a hot or a cold set it delivers the scenario's own changes.
+    set_feeds::the_source_is_the_lines_changes();
+    set_laws::hot_and_cold_logs_are_safe();
+    set_laws::levels_are_the_servers_own();
     match replay(alloc, bytes, pool) {
         Ok(text) => Ok(text),
         Err(ReadError::Fault(fault)) => Err(Refusal::Scenario {
