@@ -26,7 +26,7 @@ use Rattle.link_rules.specs.Said.{Said, Told, Greeted, Opens, Asks, Limited, Ren
 use Rattle.link_keeps.specs.Fitting.{IsShort, KeepsSaid, KeepsTold}
 use Rattle.link_laws.specs.Lockstep.{is_put, puts}
 use Rattle.link_takings.specs.Exchange.{messages_of}
-use Rattle.set_histories.specs.Heard.{AreHeardOf, IsHeardOf}
+use Rattle.set_talks.specs.Heard.{AreHeardOf, IsHeardOf}
 use Rattle.client_askings.specs.Reading.{AreReadAs, ReadsAs}
 
 -- ---- what a body asks for is what it is read as

@@ -6,7 +6,7 @@ ghost use Rattle.ua_channel.specs.Orders.{puts_of};
 ghost use Rattle.link_rules.specs.Said.{Said, orders_of};
 ghost use Rattle.link_keeps.specs.Fitting.{KeepsSaid};
 ghost use Rattle.link_takings.specs.Exchange.{messages_of};
-ghost use Rattle.set_histories.specs.Heard.{AreHeardOf};
+ghost use Rattle.set_talks.specs.Heard.{AreHeardOf};
 ghost use Rattle.client_askings.specs.Reading.{AreReadAs};
 
 /// Where what a client's link says keeps the limits of the wire, each message that is heard of what it puts, one after

@@ -29,11 +29,11 @@ use Rattle.server_makings.specs.Asked.{AskedItem, asked_by, asked_in, asked_of_h
 use Rattle.link_rules.specs.declared.config.LinkConfig.{LinkConfig}
 use Rattle.link_rules.specs.Requests.{item_requests}
 use Rattle.link_laws.specs.Asked.{IsStandard, items_in}
-use Rattle.set_hearings.specs.Attentive.{AreOn, IsIn}
-use Rattle.set_histories.specs.Lives.{heard_by, heard_on}
+use Rattle.set_talks.specs.On.{AreOn, IsIn}
+use Rattle.set_talks.specs.Lives.{heard_by, heard_on}
 use Rattle.client_dials.specs.Making.{asks_for}
 use Rattle.server_tellings.proofs.Hearing.{IsSaidAgain}
-use Rattle.set_meetings.specs.Meetings.{Life, Served, connections_of, served_by, start_of}
+use Rattle.set_talks.specs.Meetings.{Life, Served, connections_of, served_by, start_of}
 use Rattle.set_askings.proofs.Hearing.{IsGoodHeard, IsGoodRequest, asks_by_all, asks_heard, asks_in_request, asks_join}
 use Rattle.set_askings.proofs.Making.{makes_all, makes_apart, makes_facts, makes_on}
 use Rattle.set_askings.proofs.Sharing.{IsServedWell, IsSpokenOn, ReadsSo, all_served, back_of, front_of}

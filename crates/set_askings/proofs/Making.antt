@@ -21,7 +21,7 @@ use Rattle.server_laws.specs.Facts as facts
 use Rattle.server_laws.specs.Moves.{Fact}
 use Rattle.server_tellings.proofs.Hearing.{IsReplied, IsSaidAgain, is_heard, replied_so}
 use Rattle.link_laws.specs.Taken.{heard_reply, id_in}
-use Rattle.set_histories.specs.Heard.{AreHeardOf, IsHeardOf}
+use Rattle.set_talks.specs.Heard.{AreHeardOf, IsHeardOf}
 use Rattle.client_dials.specs.Making.{makes_by, makes_in}
 use Rattle.set_askings.proofs.Sums.{count, count_join, only, sum, sum_only, sum_two}
 use Rattle.set_askings.specs.Once.{AreApart}

@@ -12,12 +12,12 @@ use Rattle.link_laws.specs.Asked.{NeverAsks, items_put}
 use Rattle.link_rules.specs.declared.config.LinkConfig.{LinkConfig}
 use Rattle.link_rules.specs.Said.{Said, orders_of}
 use Rattle.link_takings.specs.Exchange.{messages_of}
-use Rattle.set_histories.specs.Heard.{AreHeardOf}
-use Rattle.set_histories.specs.Lives.{heard_on}
+use Rattle.set_talks.specs.Heard.{AreHeardOf}
+use Rattle.set_talks.specs.Lives.{heard_on}
 use Rattle.client_dials.specs.Making.{AsksForMade, asks_for, makes_in}
 use Rattle.client_dials.specs.Spoken.{Spoken}
 use Rattle.client_askings.specs.Reading.{AreReadAs}
-use Rattle.set_meetings.specs.Meetings.{AreShared, IsShared, Life, Served, served_by, start_of}
+use Rattle.set_talks.specs.Meetings.{AreShared, IsShared, Life, Served, served_by, start_of}
 use Rattle.set_askings.proofs.Hearing.{IsGoodHeard, IsHeardThere, asks_by_all, heard_there}
 use Rattle.set_askings.proofs.Making.{makes_few, makes_on}
 use Rattle.set_askings.proofs.Speaking.{IsOnSpoken}

@@ -2,7 +2,7 @@
 use Rattle.std.proofs.Common.{◌≡◌, ℕ, ◌+◌, ◌<◌, ◌≤◌, ◌==◌, List, [], ◌∷◌, ◌++◌, Bool, true, false, cond, if◌then◌else◌, refl, sym, subst, arith}
 use Rattle.std.proofs.lemmas.Bool.Decides.{nat_tests}
 use Rattle.server_laws.specs.Facts.{RiseBetween}
-use Rattle.set_hearings.specs.Attentive.{IsIn}
+use Rattle.set_talks.specs.On.{IsIn}
 use Rattle.set_askings.specs.Once.{AreAbove, AreApart}
 
 abbrev pub sum : (ℕ → ℕ) → List ℕ → ℕ

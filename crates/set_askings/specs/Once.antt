@@ -8,9 +8,9 @@ use Rattle.server_makings.specs.Asked.{asked_in, asked_with}
 use Rattle.link_keeps.specs.Fitting.{KeepsSaid}
 use Rattle.link_rules.specs.declared.config.LinkConfig.{LinkConfig}
 use Rattle.link_rules.specs.Requests.{item_requests}
-use Rattle.set_hearings.specs.Attentive.{AreOn}
+use Rattle.set_talks.specs.On.{AreOn}
 use Rattle.client_dials.specs.Spoken.{Spoken}
-use Rattle.set_meetings.specs.Meetings.{Life}
+use Rattle.set_talks.specs.Meetings.{Life}
 
 -- what a link says on each of these connections keeps the limits of the wire
 abbrev pub AllKept : List Spoken → Type 0

@@ -8,7 +8,7 @@ ghost use Rattle.link_rules.specs.Step.{Happening};
 ghost use Rattle.link_laws.specs.Asked.{NeverWants};
 ghost use Rattle.client_links.specs.Links.{passed_by};
 ghost use Rattle.client_dials.specs.Spoken.{spoken_in};
-ghost use Rattle.set_meetings.specs.Meetings.{AllShared, Life};
+ghost use Rattle.set_talks.specs.Meetings.{AllShared, Life};
 ghost use Rattle.set_askings.specs.Once.{AllKept, IsAskedOnce, IsOrderly};
 
 /// Take a link that is never wanted to have its items off, whose connections are those of its server's lives. In each of

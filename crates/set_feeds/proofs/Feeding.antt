@@ -19,9 +19,7 @@ use Rattle.server_messages.specs.Messages as serving
 use Rattle.client_messages.specs.Messages as learning
 use Rattle.ua_channel.specs.Messages.{hearing_of}
 use Rattle.set_rules.specs.Slots.{current_of, currents}
-use Rattle.set_world.specs.Texts.{client_config}
-use Rattle.set_messages.specs.Nodes.{Server, beginning}
-use Rattle.set_fronts.specs.Noting.{NotedLife, noted_client, noted_life, noting}
+use Rattle.set_histories.specs.Below.{client_config, Server, beginning, NotedLife, noted_client, noted_life, noting}
 use Rattle.set_histories.specs.Recording.{RecordedLife, closes_in, heard_here, heard_in, opens_in, recorded_client, recorded_life, recording}
 use Rattle.set_histories.specs.Histories.{lives_after, recorded_after}
 use Rattle.set_feeds.specs.Feeds.{AllFedFrom, IsFedFrom}

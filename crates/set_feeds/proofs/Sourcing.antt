@@ -9,9 +9,7 @@ use Rattle.scenario.specs.Past.{changes_in}
 use Rattle.scenario.specs.declared.line.Line.{Line}
 use Rattle.scenario.specs.declared.line.Line.TheVariants as line
 use Rattle.client_messages.specs.Messages as learning
-use Rattle.set_world.specs.Texts.{client_config}
-use Rattle.set_messages.specs.Nodes.{beginning}
-use Rattle.set_fronts.specs.Noting.{noted_client, noted_life, noting}
+use Rattle.set_histories.specs.Below.{client_config, beginning, noted_client, noted_life, noting}
 use Rattle.set_histories.specs.Recording.{recorded_client, recorded_life, recording}
 use Rattle.set_histories.specs.Histories.{recorded_after}
 use Rattle.set_feeds.specs.Feeds.{sourced}

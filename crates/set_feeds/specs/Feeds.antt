@@ -5,7 +5,7 @@ use Rattle.ua_channel.specs.State.{WireState}
 use Rattle.direct_world.specs.World.{appended}
 use Rattle.server_laws.specs.Course.{fed_in}
 use Rattle.set_rules.specs.Slots.{currents}
-use Rattle.set_fronts.specs.Noting.{NotedLife}
+use Rattle.set_histories.specs.Below.{NotedLife}
 use Rattle.set_histories.specs.Recording.{RecordedLife}
 
 -- the source after these changes, one after another: one that can't be of it leaves it

@@ -10,7 +10,7 @@ use Rattle.ua_base.specs.declared.modes.SetMode.TheVariants.{Cold, Direct, Hot, 
 use Rattle.ua_values.specs.Limits.{most_bytes}
 use Rattle.client_keeps.specs.Fitting as client_keeps
 use Rattle.server_keeps.specs.Fitting.{FitsConfig, KeepsMember}
-use Rattle.set_world.specs.Texts.{client_config, member, members, server_config, support_of, uri_text, url_text, urls}
+use Rattle.set_histories.specs.Below.{client_config, member, members, server_config, support_of, uri_text, url_text, urls}
 
 -- ---- names and addresses of at most eight servers
 

@@ -14,7 +14,7 @@ use Rattle.set_rules.specs.Slots.{stopped}
 use Rattle.set_rules.specs.Moves.{ended, in_slot, slot_at}
 use Rattle.set_rules.specs.World.{Beginning, after, after_all, at_place, begun, new_set}
 use Rattle.set_rules.proofs.Places.{here_or_not, slot_here, slots_long}
-use Rattle.set_fronts.specs.Lives.{before, over_after, over_at, over_by}
+use Rattle.set_histories.specs.Below.{before, over_after, over_at, over_by}
 use Rattle.set_fitting.proofs.Walking.{Any, AreBegun, AreKept, ConnectionKept, LifeKept, LineIs, SetKept, ended_of, line_kept, place_is}
 
 -- ---- lists of lives

@@ -18,10 +18,7 @@ use Rattle.client_keeps.specs.Fitting as client_keeps
 use Rattle.client_messages.specs.Messages as learning
 use Rattle.client_messages.specs.Showing as client_messages
 use Rattle.set_rules.specs.World.{Beginning}
-use Rattle.set_world.specs.Texts.{client_config, server_config}
-use Rattle.set_messages.specs.Fitting.{FitsLine}
-use Rattle.set_messages.specs.Nodes.{beginning}
-use Rattle.set_fronts.specs.Noting.{NotedClient, NotedLife, noted_client, noted_life, noting}
+use Rattle.set_histories.specs.Below.{client_config, server_config, FitsLine, beginning, NotedClient, NotedLife, noted_client, noted_life, noting}
 use Rattle.set_histories.specs.Recording.{RecordedClient, RecordedLife, recorded_client, recorded_life, recording}
 use Rattle.set_histories.specs.Histories.{lives_after, recorded_after}
 use Rattle.set_fitting.specs.Fits.{AllFit}

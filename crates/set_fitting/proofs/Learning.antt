@@ -18,8 +18,7 @@ use Rattle.client_keeps.proofs.Rules.{after_client, dialled_fits, new_fits, wish
 use Rattle.client_messages.specs.Messages as learning
 use Rattle.client_messages.specs.Showing.{Brings, ComesFit}
 use Rattle.client_messages.proofs.Ordering.{client_orders}
-use Rattle.set_messages.specs.Nodes.{Client}
-use Rattle.set_fronts.specs.Noting.{NotedClient}
+use Rattle.set_histories.specs.Below.{Client, NotedClient}
 use Rattle.set_histories.specs.Recording.{RecordedClient, event_of, learned_here, learned_in}
 use Rattle.set_fitting.proofs.Talking.{EndBrings, TalkKeeps, all_keep, obeyed, set_brings}
 

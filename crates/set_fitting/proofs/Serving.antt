@@ -17,9 +17,7 @@ use Rattle.server_keeps.specs.Fitting.{FitsChange, FitsConfig, FitsHappening, Fi
 use Rattle.server_messages.specs.Fitting.{Brings, ComesFit}
 use Rattle.server_messages.specs.Messages as serving
 use Rattle.server_messages.proofs.Rules.{Rules, brings, heard_brings, heard_keeps, keeps}
-use Rattle.set_messages.specs.Nodes.{Server}
-use Rattle.set_world.specs.Texts.{server_config}
-use Rattle.set_fronts.specs.Noting.{NotedLife}
+use Rattle.set_histories.specs.Below.{Server, server_config, NotedLife}
 use Rattle.set_histories.specs.Recording.{RecordedLife, closes_in, heard_here, heard_in, opens_in}
 use Rattle.set_fitting.proofs.Talking.{EndBrings, TalkKeeps, all_keep, cut_brings, obeyed, set_brings}
 

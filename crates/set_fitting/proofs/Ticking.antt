@@ -12,9 +12,7 @@ use Rattle.client_rules.specs.Acts.{Closes, Hears, Opens, Refuses, Ticks}
 use Rattle.client_rules.specs.Step.{Ends, Goes, Moment, Takes, ears}
 use Rattle.client_messages.specs.Messages as learning
 use Rattle.set_rules.specs.World.{Beginning}
-use Rattle.set_world.specs.Texts.{client_config}
-use Rattle.set_messages.specs.Nodes.{Client, beginning}
-use Rattle.set_fronts.specs.Noting.{NotedClient, NotedLife, noted_client, noted_life, noting}
+use Rattle.set_histories.specs.Below.{client_config, Client, beginning, NotedClient, NotedLife, noted_client, noted_life, noting}
 use Rattle.set_histories.specs.Recording.{RecordedClient, RecordedLife, event_of, learned_here, learned_in, recorded_client, recorded_life, recording}
 use Rattle.set_histories.specs.Histories.{recorded_after}
 use Rattle.set_fitting.specs.Counted.{ticks_in_moments}

@@ -17,7 +17,7 @@ use Rattle.set_rules.specs.Moves.{after_close, asked_by, cleared_by, client_does
 use Rattle.set_rules.specs.Rounds.{round, rounds, ticked, ticked_among, turn, turns_among}
 use Rattle.set_rules.specs.World.{Beginning, after, after_all, at_place, begun, new_set}
 use Rattle.set_rules.proofs.Places.{here_or_not, place_within, slot_here, slot_new, slot_other, slots_long}
-use Rattle.set_fronts.specs.Lives.{before, over_after, over_at, over_by}
+use Rattle.set_histories.specs.Below.{before, over_after, over_at, over_by}
 use Rattle.set_fitting.proofs.Changes.{appended_all, currents_all, drop_all, take_all}
 
 -- ---- numbers of servers

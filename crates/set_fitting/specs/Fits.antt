@@ -4,8 +4,7 @@ use Rattle.std.specs.List.{AllByRecursion}
 use Rattle.ua_base.specs.declared.modes.SetMode.{SetMode}
 use Rattle.ua_channel.specs.State.{WireState}
 use Rattle.server_keeps.specs.Fitting.{FitsChange, FitsConfig, FitsHappening}
-use Rattle.set_world.specs.Texts.{server_config}
-use Rattle.set_fronts.specs.Noting.{NotedLife}
+use Rattle.set_histories.specs.Below.{server_config, NotedLife}
 use Rattle.set_histories.specs.Recording.{RecordedLife}
 
 -- a life of a server begins with a config and current values that fit, and all that happens to it does

@@ -2,3 +2,4 @@ pub mod Noting
 pub mod Lives
 pub mod Fronts
 pub mod Numbers
+pub mod Below

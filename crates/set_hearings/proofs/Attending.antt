@@ -13,14 +13,13 @@ use Rattle.server_rules.specs.State.{ServerState, new_server}
 use Rattle.server_rules.specs.Step.{Closes, Feeds, Happening, Hears, Levels, Opens, Ticks, after, ears}
 use Rattle.server_messages.specs.Messages as serving
 use Rattle.client_messages.specs.Messages as learning
-use Rattle.set_world.specs.Texts.{client_config, server_config}
-use Rattle.set_messages.specs.Nodes.{Server, beginning}
-use Rattle.set_fronts.specs.Noting.{Accepted, NotedLife, Talked, noted_client, noted_life, noting, on_newest, puts, takes}
+use Rattle.set_histories.specs.Below.{client_config, server_config, Server, beginning, Accepted, NotedLife, Talked, noted_client, noted_life, noting, on_newest, puts, takes}
 use Rattle.set_histories.specs.Recording.{RecordedLife, closes_in, heard_here, heard_in, opens_in, recorded_client, recorded_life, recording}
 use Rattle.set_histories.specs.Histories.{lives_after}
 use Rattle.set_histories.proofs.Ends.{has_heard}
 use Rattle.set_histories.proofs.Walking.{AllOver, AreKept, lives_keep, next_given}
-use Rattle.set_hearings.specs.Attentive.{AllAttentive, AreHeard, AreOn, IsAttentive, IsIn, numbers_of}
+use Rattle.set_hearings.specs.Attentive.{AllAttentive, AreHeard, IsAttentive, numbers_of}
+use Rattle.set_talks.specs.On.{AreOn, IsIn}
 
 abbrev Life : Type 0
 Life = NotedLife RecordedLife WireState

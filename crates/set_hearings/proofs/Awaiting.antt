@@ -21,7 +21,7 @@ use Rattle.client_orders.proofs.Whole.{client_holds, servers_stay}
 use Rattle.client_messages.specs.Messages as learning
 use Rattle.client_messages.proofs.Dialling.{at_set}
 use Rattle.ua_client.specs.State as client
-use Rattle.set_messages.specs.Nodes.{Client}
+use Rattle.set_histories.specs.Below.{Client}
 use Rattle.set_histories.specs.Recording.{learned_here, learned_in}
 use Rattle.set_histories.proofs.Dialled.{same_servers}
 use Rattle.set_histories.proofs.Ends.{has_heard}

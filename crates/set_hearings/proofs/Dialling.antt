@@ -14,9 +14,7 @@ use Rattle.client_links.specs.Awaited.{AreAwaited}
 use Rattle.client_orders.proofs.Clients.{dialled_long}
 use Rattle.client_messages.specs.Messages as learning
 use Rattle.ua_client.specs.State as client
-use Rattle.set_world.specs.Texts.{client_config, url_text, urls}
-use Rattle.set_messages.specs.Nodes.{beginning}
-use Rattle.set_fronts.specs.Noting.{NotedClient, noted_client, noted_life, noting}
+use Rattle.set_histories.specs.Below.{client_config, url_text, urls, beginning, NotedClient, noted_client, noted_life, noting}
 use Rattle.set_histories.specs.Recording.{RecordedClient, event_of, learned_in, recorded_client, recorded_life, recording}
 use Rattle.set_histories.specs.Histories.{recorded_after}
 use Rattle.set_histories.proofs.Dialled.{all_long, same_servers}

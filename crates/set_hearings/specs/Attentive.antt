@@ -1,29 +1,19 @@
 -- What comes to a server's life is heard on a connection that it accepted and that isn't deaf.
-use Rattle.std.specs.Prelude.{◌≡◌, ℕ, false, List, [], ◌∷◌, ◌++◌}
+use Rattle.std.specs.Prelude.{◌≡◌, ℕ, false, List, [], ◌∷◌}
 use Rattle.ua_base.specs.declared.modes.SetMode.{SetMode}
 use Rattle.ua_channel.specs.State.{WireState, is_deaf}
 use Rattle.server_rules.specs.State.{ServerState, new_server}
 use Rattle.server_rules.specs.Acts.{state_after}
 use Rattle.server_rules.specs.Step as server
-use Rattle.set_world.specs.Texts.{server_config}
-use Rattle.set_fronts.specs.Noting.{Accepted, NotedLife}
+use Rattle.set_histories.specs.Below.{server_config, Accepted, NotedLife}
 use Rattle.set_histories.specs.Recording.{RecordedLife}
+use Rattle.set_talks.specs.On.{AreOn}
 
 -- each message is heard where its connection isn't deaf; what happened is told newest first
 abbrev pub AreHeard : List server.Happening → ServerState → Type 0
 AreHeard [] s = Unit {0}
 AreHeard (server.Hears conn h ∷ earlier) s = (is_deaf (server.ears conn (state_after earlier s)) ≡ false) × AreHeard earlier s
 AreHeard (other ∷ earlier) s = AreHeard earlier s
-
--- the number is one of these
-abbrev pub IsIn : ℕ → List ℕ → Type 0
-IsIn number numbers = (before : List ℕ) × (after : List ℕ) × (numbers ≡ before ++ number ∷ after)
-
--- each message is heard on one of these connections
-abbrev pub AreOn : List ℕ → List server.Happening → Type 0
-AreOn numbers [] = Unit {0}
-AreOn numbers (server.Hears conn h ∷ earlier) = IsIn conn numbers × AreOn numbers earlier
-AreOn numbers (other ∷ earlier) = AreOn numbers earlier
 
 -- the numbers of connections
 abbrev pub numbers_of : List (Accepted WireState) → List ℕ

@@ -4,7 +4,7 @@ ghost use Rattle.ua_base.specs.declared.modes.SetMode.{SetMode};
 ghost use Rattle.scenario.specs.declared.line.Line.{Line};
 ghost use Rattle.client_rules.specs.Step.{new_client};
 ghost use Rattle.client_links.specs.Awaited.{AreAwaited};
-ghost use Rattle.set_world.specs.Texts.{client_config};
+ghost use Rattle.set_histories.specs.Below.{client_config};
 ghost use Rattle.set_histories.specs.Histories.{lives_after, recorded_after};
 ghost use Rattle.set_hearings.specs.Attentive.{AllAttentive};
 

@@ -24,11 +24,11 @@ use Rattle.client_orders.specs.Holding.{HoldsConnection, IsBeside}
 use Rattle.client_orders.proofs.Clients.{dialled_long}
 use Rattle.client_orders.proofs.Whole.{client_holds, client_opens, dialled_holds, servers_stay}
 use Rattle.client_messages.specs.Messages as learning
-use Rattle.set_messages.specs.Nodes.{Client}
+use Rattle.set_fronts.specs.Below.{Client}
 use Rattle.set_fronts.specs.Noting.{Talked, nothing_talked, on_last as on_talked, puts, takes}
-use Rattle.set_histories.specs.Heard.{AreHeardOf, IsHeardOf}
+use Rattle.set_talks.specs.Heard.{AreHeardOf, IsHeardOf}
 use Rattle.set_histories.specs.Histories.{AreDialled}
-use Rattle.set_histories.specs.Lives.{Dial, dialled_at, dialled_by, dials_after, dials_with, new_dial, on_last}
+use Rattle.set_talks.specs.Lives.{Dial, dialled_at, dialled_by, dials_after, dials_with, new_dial, on_last}
 use Rattle.set_histories.specs.Recording.{learned_here, learned_in}
 use Rattle.set_histories.proofs.Closing.{Closes, after_closes, closes_deaf, dialled_closes}
 use Rattle.set_histories.proofs.Ends.{grown, has_heard, obeyed_outs, outs, set_other, set_same, settled_out}

@@ -9,7 +9,7 @@ use Rattle.client_rules.specs.Acts as acts
 use Rattle.client_rules.specs.Step.{Ends, Goes, Moment, Takes, after_all, at_moment, ears}
 use Rattle.client_rules.specs.Dialling.{dialled}
 use Rattle.client_messages.specs.Messages as learning
-use Rattle.set_messages.specs.Nodes.{Client}
+use Rattle.set_fronts.specs.Below.{Client}
 use Rattle.set_fronts.specs.Noting.{NotedClient, noting}
 use Rattle.set_histories.specs.Recording.{RecordedClient, event_of, learned_here, learned_in, recording}
 use Rattle.set_histories.proofs.Ends.{has_heard}

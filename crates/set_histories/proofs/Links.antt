@@ -19,9 +19,9 @@ use Rattle.client_orders.proofs.Whole.{wish_opens}
 use Rattle.client_messages.specs.Messages as learning
 use Rattle.client_messages.proofs.Dialling.{at_set}
 use Rattle.ua_client.specs.State as client
-use Rattle.set_messages.specs.Nodes.{Client}
+use Rattle.set_fronts.specs.Below.{Client}
 use Rattle.set_fronts.specs.Noting.{NotedClient, Talked, noting, nothing_talked, of_link, on_last as on_talked, puts, takes}
-use Rattle.set_histories.specs.Lives.{Dial, dials_after, new_dial}
+use Rattle.set_talks.specs.Lives.{Dial, dials_after, new_dial}
 use Rattle.set_histories.specs.Recording.{RecordedClient, event_of, learned_in, recording}
 use Rattle.set_histories.proofs.Closing.{Closes}
 use Rattle.set_histories.proofs.Dialled.{IsAside, IsCalm, IsLinked, Moves, all_long, calmly, cleared_on, dials_append, event_on, goes_on, gone, grown_nothing, opens_on, other_cleared, other_hears, own_hears, renewed_other, same_servers}

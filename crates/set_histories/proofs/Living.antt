@@ -17,12 +17,11 @@ use Rattle.server_messages.specs.Messages as serving
 use Rattle.ua_channel.specs.Sharing.{own}
 use Rattle.server_rules.specs.Said.{orders_of}
 use Rattle.server_rules.specs.declared.config.ServerConfig.{ServerConfig}
-use Rattle.set_world.specs.Texts.{server_config}
-use Rattle.set_messages.specs.Nodes.{Server, beginning}
+use Rattle.set_fronts.specs.Below.{server_config, Server, beginning}
 use Rattle.set_fronts.specs.Noting.{Accepted, NotedLife, changed_if, noted_life, noting, on_newest, puts, takes, Talked}
 use Rattle.set_histories.specs.Recording.{RecordedLife, closes_in, heard_here, heard_in, recorded_life, recording}
 use Rattle.set_histories.specs.Histories.{AllLived, AllTold, IsLived, IsTold}
-use Rattle.set_histories.specs.Lives.{put_on}
+use Rattle.set_talks.specs.Lives.{put_on}
 use Rattle.set_histories.proofs.Ends.{has_heard, obeyed_outs, outs}
 use Rattle.set_histories.proofs.Serving.{AllToldIn, Goes, IsQuietly, Rests, Stands, begins_one, empties, ends_one, hears_all, put_front, rests_more, stands_more}
 use Rattle.set_histories.proofs.Walking.{AllOver, AreKept, next_given}

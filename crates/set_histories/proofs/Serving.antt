@@ -23,9 +23,9 @@ use Rattle.server_keeps.specs.Lawful.{OpensOther}
 use Rattle.server_messages.specs.Messages.{answers, closed, end_closed, end_opened, opened, with_ends}
 use Rattle.server_messages.proofs.Deafness.{stays_deaf}
 use Rattle.set_fronts.specs.Noting.{Accepted, Talked, nothing_talked, puts, takes}
-use Rattle.set_histories.specs.Heard.{AreHeardOf, IsHeardOf}
-use Rattle.set_histories.specs.Lives.{heard_by as heard_then, heard_on, put_on}
-use Rattle.set_messages.specs.Nodes.{Server}
+use Rattle.set_talks.specs.Heard.{AreHeardOf, IsHeardOf}
+use Rattle.set_talks.specs.Lives.{heard_by as heard_then, heard_on, put_on}
+use Rattle.set_fronts.specs.Below.{Server}
 use Rattle.set_fronts.specs.Fronts.{IsFront}
 use Rattle.set_histories.specs.Recording.{closes_in, heard_here, heard_in, opens_in}
 use Rattle.set_histories.proofs.Ends.{HasHeard, grown, has_heard, map_append, obeyed_outs, outs, own_append, puts_append, set_other, set_same}

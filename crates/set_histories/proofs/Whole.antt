@@ -17,13 +17,11 @@ use Rattle.client_rules.specs.Step.{new_client}
 use Rattle.client_orders.proofs.Clients.{dialled_long}
 use Rattle.client_messages.specs.Messages as learning
 use Rattle.set_rules.specs.State.{SetState}
-use Rattle.set_world.specs.Texts.{client_config, url_text, urls}
-use Rattle.set_messages.specs.Nodes.{Client, Server, beginning, nodes}
-use Rattle.set_messages.specs.World.{messages_after}
+use Rattle.set_fronts.specs.Below.{client_config, url_text, urls, Client, Server, beginning, nodes, messages_after}
 use Rattle.set_fronts.specs.Noting.{NotedClient, NotedLife, noted_client, noted_life, noting}
 use Rattle.set_histories.specs.Recording.{RecordedClient, RecordedLife, recorded_client, recorded_life, recording}
 use Rattle.set_histories.specs.Histories.{AllLived, AreDialled, IsLearned, IsLived, lives_after, recorded_after}
-use Rattle.set_histories.specs.Lives.{dials_after}
+use Rattle.set_talks.specs.Lives.{dials_after}
 use Rattle.set_histories.proofs.Dialled.{are_dialled}
 use Rattle.set_histories.proofs.Forgetting.{IsForgotten, forgotten}
 use Rattle.set_histories.proofs.Learning.{IsStated, at_none, state_kept}

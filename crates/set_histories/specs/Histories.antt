@@ -9,14 +9,12 @@ use Rattle.client_rules.specs.Step.{after_all, new_client}
 use Rattle.client_messages.specs.Messages as learning
 use Rattle.set_rules.specs.State.{SetState}
 use Rattle.set_rules.specs.Moves.{slot_at}
-use Rattle.set_world.specs.Texts.{client_config, server_config}
-use Rattle.set_messages.specs.Nodes.{beginning}
-use Rattle.set_messages.specs.World.{messages_after}
+use Rattle.set_fronts.specs.Below.{client_config, server_config, beginning, messages_after}
 use Rattle.set_fronts.specs.Noting.{Accepted, NotedClient, NotedLife, Talked}
 use Rattle.set_fronts.specs.Lives.{before}
 use Rattle.set_fronts.specs.Fronts.{IsFront, lives_over, noted_after}
-use Rattle.set_histories.specs.Heard.{AreHeardOf}
-use Rattle.set_histories.specs.Lives.{Dial, dials_after, heard_on, put_on}
+use Rattle.set_talks.specs.Heard.{AreHeardOf}
+use Rattle.set_talks.specs.Lives.{Dial, dials_after, heard_on, put_on}
 use Rattle.set_histories.specs.Recording.{RecordedClient, RecordedLife, recorded_client, recorded_life, recording}
 
 -- ---- a set that records

@@ -1,4 +1,3 @@
-pub mod Heard
-pub mod Lives
 pub mod Recording
 pub mod Histories
+pub mod Below

@@ -13,7 +13,7 @@ use Rattle.client_rules.specs.Step.{Ends, Goes, Moment, Takes, ears}
 use Rattle.client_messages.specs.Messages as learning
 use Rattle.set_rules.specs.Nodes.{Nodes}
 use Rattle.set_rules.specs.World.{Beginning}
-use Rattle.set_messages.specs.Nodes.{Client, Server, nodes}
+use Rattle.set_fronts.specs.Below.{Client, Server, nodes}
 
 -- a life of a server, and all that happened to it, newest first
 pub record RecordedLife : Type 0 where

@@ -9,7 +9,7 @@ use Rattle.server_keeps.specs.Fitting.{FitsChange, FitsConfig, FitsHappening}
 use Rattle.server_answers.specs.Turns.{AreHeard}
 use Rattle.link_following.specs.Book.{AreLinkedValues, Book, IsSound, joined, values_of}
 use Rattle.whole_books.specs.Whole.{AreOfBoot, IsOfBoot, IsWhole}
-use Rattle.set_meetings.specs.Meetings.{Life, start_of}
+use Rattle.set_talks.specs.Meetings.{Life, start_of}
 use Rattle.set_takings.specs.Booked.{IsBooked}
 use Rattle.set_laws.proofs.Finding.{Volume, book_in, earlier_book, found_has, own_book}
 

@@ -12,9 +12,9 @@ use Rattle.client_rules.specs.State.{link_config}
 use Rattle.client_links.specs.Awaited.{AllAwaited}
 use Rattle.client_links.specs.Links.{passed_by, told_of}
 use Rattle.client_dials.specs.Spoken.{spoken_in}
-use Rattle.set_world.specs.Texts.{client_config}
+use Rattle.set_histories.specs.Below.{client_config}
 use Rattle.set_histories.specs.Histories.{lives_after, recorded_after}
-use Rattle.set_meetings.specs.Meetings.{AllShared, Life}
+use Rattle.set_talks.specs.Meetings.{AllShared, Life}
 use Rattle.set_meetings.specs.Noted.{lives_noted}
 use Rattle.set_askings.specs.Once.{AllKept, IsOrderly}
 use Rattle.set_levels.specs.Had.{HadLevel}

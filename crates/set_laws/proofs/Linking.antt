@@ -18,11 +18,11 @@ use Rattle.link_rules.specs.Requests.{item_requests}
 use Rattle.life_books.specs.Lives.{AreOfSource}
 use Rattle.whole_books.specs.Whole.{AreOfBoot, IsWhole}
 use Rattle.set_rules.specs.Slots.{currents}
-use Rattle.set_fronts.specs.Noting.{NotedLife}
+use Rattle.set_histories.specs.Below.{NotedLife}
 use Rattle.set_histories.specs.Recording.{RecordedLife}
 use Rattle.set_feeds.specs.Feeds.{IsFedFrom}
 use Rattle.set_feeds.specs.Known.{known_of}
-use Rattle.set_meetings.specs.Meetings.{Life, start_of}
+use Rattle.set_talks.specs.Meetings.{Life, start_of}
 
 -- what is known of an item is of the source
 pub record Knowing : Type 0 where

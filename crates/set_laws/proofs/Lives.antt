@@ -10,14 +10,14 @@ use Rattle.server_rules.specs.State.{ServerState}
 use Rattle.server_rules.specs.Step.{Closes, Feeds, Happening, Hears, Levels, Opens, Ticks}
 use Rattle.server_answers.specs.Turns as answers
 use Rattle.link_rules.specs.declared.config.LinkConfig.{LinkConfig}
-use Rattle.set_fronts.specs.Fronts.{AreCounted, AreNumbered}
-use Rattle.set_fronts.specs.Noting.{Accepted, NotedLife}
+use Rattle.set_histories.specs.Below.{AreCounted, AreNumbered, Accepted, NotedLife}
 use Rattle.set_histories.specs.Recording.{RecordedLife}
 use Rattle.set_feeds.specs.Feeds.{AllFedFrom, IsFedFrom}
 use Rattle.set_hearings.specs.Attentive as hearings
-use Rattle.set_hearings.specs.Attentive.{AllAttentive, AreOn, IsAttentive, numbers_of}
+use Rattle.set_hearings.specs.Attentive.{AllAttentive, IsAttentive, numbers_of}
+use Rattle.set_talks.specs.On.{AreOn}
 use Rattle.set_fitting.specs.Fits.{AllFit, LifeFits}
-use Rattle.set_meetings.specs.Meetings.{Life, connections_of, served_by, start_of}
+use Rattle.set_talks.specs.Meetings.{Life, connections_of, served_by, start_of}
 use Rattle.set_meetings.specs.Noted.{life_noted, lives_noted}
 use Rattle.set_askings.specs.Once.{AreAbove, AreApart, IsAskedOnce, IsOrderly}
 use Rattle.set_laws.proofs.Bound.{AreFalling, AreUnder, IsBound}

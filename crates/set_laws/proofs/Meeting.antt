@@ -20,16 +20,14 @@ use Rattle.client_links.specs.Awaited.{AllAwaited, AreAwaited}
 use Rattle.client_links.specs.Links.{IsLinkLife, Passing, passed_by, passed_in, ticks_at}
 use Rattle.client_dials.specs.Spoken.{Spoken, spoken_in}
 use Rattle.client_messages.specs.Messages as learning
-use Rattle.set_world.specs.Texts.{client_config, url_text, urls}
-use Rattle.set_messages.specs.Nodes.{beginning}
-use Rattle.set_fronts.specs.Fronts.{AllFronts}
+use Rattle.set_histories.specs.Below.{client_config, url_text, urls, beginning, AllFronts}
 use Rattle.set_histories.specs.Histories.{RecordedSet, lives_after, recorded_after}
 use Rattle.set_histories.specs.Recording.{recorded_client, recorded_life, recording}
 use Rattle.set_feeds.specs.Feeds.{AllFedFrom}
 use Rattle.set_hearings.specs.Attentive.{AllAttentive}
 use Rattle.set_fitting.specs.Counted.{ticks_in_moments}
 use Rattle.set_fitting.specs.Fits.{AllFit}
-use Rattle.set_meetings.specs.Meetings.{AllShared, AreShared, Life, Served, connections_of}
+use Rattle.set_talks.specs.Meetings.{AllShared, AreShared, Life, Served, connections_of}
 use Rattle.set_meetings.specs.Noted.{lives_noted}
 use Rattle.set_askings.specs.Once.{AllKept, IsOrderly}
 use Rattle.set_laws.specs.Limits.{AreWithin}

@@ -3,7 +3,7 @@ use Rattle.std.specs.Prelude.{◌≤◌, ◌<◌, ◌^◌, ℕ, List, length}
 use Rattle.std.specs.List.{AllByRecursion}
 use Rattle.scenario.specs.declared.line.Line.{Line}
 use Rattle.scenario.specs.Past.{boot_of}
-use Rattle.set_messages.specs.Fitting.{FitsLine}
+use Rattle.set_histories.specs.Below.{FitsLine}
 
 -- at most eight servers and 255 items, a queue of two places or more for each, numbers that fit their types, and no more
 -- starts of a server than its boot number goes, which has 16 bits

@@ -5,7 +5,7 @@ ghost use Rattle.ua_base.specs.declared.modes.SetMode.{SetMode};
 ghost use Rattle.scenario.specs.declared.line.Line.{Line};
 ghost use Rattle.client_laws.specs.Life.{acts_of};
 ghost use Rattle.client_links.specs.Links.{told_of};
-ghost use Rattle.set_world.specs.Texts.{client_config};
+ghost use Rattle.set_histories.specs.Below.{client_config};
 ghost use Rattle.set_histories.specs.Histories.{lives_after, recorded_after};
 ghost use Rattle.set_meetings.specs.Noted.{lives_noted};
 ghost use Rattle.set_levels.specs.Had.{HadLevel};

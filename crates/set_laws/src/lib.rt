@@ -7,3 +7,5 @@ mod safe;
 
 pub use levels::levels_are_the_servers_own;
 pub use safe::hot_and_cold_logs_are_safe;
+pub use set_feeds::the_source_is_the_lines_changes;
+pub use set_histories::histories_are_of_the_set;

@@ -4,7 +4,7 @@ ghost use Rattle.ua_base.specs.declared.modes.SetMode.{SetMode};
 ghost use Rattle.scenario.specs.declared.line.Line.{Line};
 ghost use Rattle.client_laws.specs.Life.{client_after, history_of};
 ghost use Rattle.client_links.specs.Links.{IsHotOrCold};
-ghost use Rattle.set_world.specs.Texts.{client_config};
+ghost use Rattle.set_histories.specs.Below.{client_config};
 ghost use Rattle.set_histories.specs.Histories.{recorded_after};
 ghost use Rattle.set_laws.specs.Faithful.{IsFaithful};
 ghost use Rattle.set_laws.specs.Limits.{AreWithin};

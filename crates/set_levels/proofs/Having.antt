@@ -46,9 +46,9 @@ use Rattle.client_links.specs.Links.{passed_by}
 use Rattle.client_askings.specs.Reading.{AreReadAs}
 use Rattle.client_dials.specs.Behind.{IsHeardBehind}
 use Rattle.client_dials.specs.Spoken.{Spoken, spoken_in}
-use Rattle.set_histories.specs.Heard.{AreHeardOf}
-use Rattle.set_histories.specs.Lives.{heard_on, put_on}
-use Rattle.set_meetings.specs.Meetings.{AllShared, AreShared, IsShared, Life, Served, connections_of, served_by, start_of}
+use Rattle.set_talks.specs.Heard.{AreHeardOf}
+use Rattle.set_talks.specs.Lives.{heard_on, put_on}
+use Rattle.set_talks.specs.Meetings.{AllShared, AreShared, IsShared, Life, Served, connections_of, served_by, start_of}
 use Rattle.set_askings.specs.Once.{AllKept, IsOrderly}
 use Rattle.set_levels.specs.Had.{HadLevel, WasLevel}
 use Rattle.set_levels.proofs.Asking.{AreFor, ReadsAskFirst, messages_for, reads_are_for_levels}

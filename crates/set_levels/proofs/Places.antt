@@ -10,8 +10,8 @@ use Rattle.server_rules.specs.Step as server
 use Rattle.server_laws.specs.Facts.{IsWithin}
 use Rattle.server_laws.proofs.Within.{none_within}
 use Rattle.link_rules.specs.Said.{Told}
-use Rattle.set_histories.specs.Heard.{AreHeardOf, IsHeardOf}
-use Rattle.set_histories.specs.Lives.{heard_by, heard_on}
+use Rattle.set_talks.specs.Heard.{AreHeardOf, IsHeardOf}
+use Rattle.set_talks.specs.Lives.{heard_by, heard_on}
 use Rattle.client_askings.specs.Reading.{AreReadAs, ReadsAs}
 
 -- ---- parts of lists

@@ -9,7 +9,7 @@ use Rattle.link_rules.specs.declared.notice.Notice.{Notice}
 use Rattle.link_rules.specs.declared.notice.Notice.TheVariants as notice
 use Rattle.server_rules.specs.Acts.{state_after}
 use Rattle.server_rules.specs.Step.{Happening, Hears}
-use Rattle.set_meetings.specs.Meetings.{Life, start_of}
+use Rattle.set_talks.specs.Meetings.{Life, start_of}
 
 -- one of these lives had this level when it heard a Read, before which all that is earlier had happened to it
 pub record WasLevel (lives : List Life) (level : ℕ) : Type 0 where

@@ -7,7 +7,7 @@ ghost use Rattle.link_rules.specs.Step.{Happening, after_all};
 ghost use Rattle.client_links.specs.Awaited.{AllAwaited};
 ghost use Rattle.client_links.specs.Links.{passed_by};
 ghost use Rattle.client_dials.specs.Spoken.{spoken_in};
-ghost use Rattle.set_meetings.specs.Meetings.{AllShared, Life};
+ghost use Rattle.set_talks.specs.Meetings.{AllShared, Life};
 ghost use Rattle.set_askings.specs.Once.{AllKept, IsOrderly};
 ghost use Rattle.set_levels.specs.Had.{HadLevel};
 

@@ -15,18 +15,14 @@ use Rattle.client_laws.specs.Life.{acts_of}
 use Rattle.client_links.specs.Links.{passed_in}
 use Rattle.client_dials.specs.Spoken.{Spoken, spoken_in}
 use Rattle.client_messages.specs.Messages as learning
-use Rattle.set_world.specs.Texts.{client_config, url_text, urls}
-use Rattle.set_messages.specs.Nodes.{beginning}
-use Rattle.set_fronts.specs.Noting.{Accepted, NotedLife, Talked}
-use Rattle.set_fronts.specs.Fronts as fronts
-use Rattle.set_fronts.specs.Fronts.{AllFronts, AllMeet, IsFront}
-use Rattle.set_histories.specs.Heard.{AreHeardOf}
+use Rattle.set_histories.specs.Below.{client_config, url_text, urls, beginning, Accepted, NotedLife, Talked, AllFronts, AllMeet, IsFront, connections_of as accepted_of}
+use Rattle.set_talks.specs.Heard.{AreHeardOf}
 use Rattle.set_histories.specs.Histories.{AllLived, AllTold, AreDialled, AreHistories, lives_after, recorded_after}
-use Rattle.set_histories.specs.Lives.{Dial, heard_on, put_on}
+use Rattle.set_talks.specs.Lives.{Dial, heard_on, put_on}
 use Rattle.set_histories.specs.Recording.{RecordedLife, recorded_client, recorded_life, recording}
 use Rattle.set_histories.proofs.Dialled.{all_long}
 use Rattle.set_histories.proofs.Links.{within_is}
-use Rattle.set_meetings.specs.Meetings.{AllShared, AreShared, Life, Served, connections_of, served_by, start_of}
+use Rattle.set_talks.specs.Meetings.{AllShared, AreShared, Life, Served, connections_of, served_by, start_of}
 use Rattle.set_meetings.specs.Noted.{life_noted, lives_noted}
 use Rattle.set_meetings.proofs.Walking.{are_dials, dial_of}
 
@@ -87,16 +83,16 @@ life_is_noted life past (a ∷ accepted) same told = (
 
 -- those of all lives, where they aren't more than the numbers go
 lives_are_noted : (mode : SetMode) (servers items number most : ℕ) (lives : List Lived)
-    → AllLived mode servers items number lives → length (fronts.connections_of lives) < most → most ≡ 2 ^ 32 - 1
-    → AreNoted (fronts.connections_of lives) (connections_of (lives_noted mode servers items number lives))
+    → AllLived mode servers items number lives → length (accepted_of lives) < most → most ≡ 2 ^ 32 - 1
+    → AreNoted (accepted_of lives) (connections_of (lives_noted mode servers items number lives))
 lives_are_noted mode servers items number most [] lived few is = tt
 lives_are_noted mode servers items number most (life ∷ earlier) lived few is =
-    let sum : length (life.connections ++ fronts.connections_of earlier) ≡ length life.connections + length (fronts.connections_of earlier) =
-    length-append life.connections (fronts.connections_of earlier) in
+    let sum : length (life.connections ++ accepted_of earlier) ≡ length life.connections + length (accepted_of earlier) =
+    length-append life.connections (accepted_of earlier) in
     let own : length life.connections < most = omega (arith, sum, few) in
-    let rest : length (fronts.connections_of earlier) < most = omega (arith, sum, few) in
+    let rest : length (accepted_of earlier) < most = omega (arith, sum, few) in
     let noted : Life = life_noted mode servers items number life in
-    noted_append life.connections (fronts.connections_of earlier) (served_by noted noted.connections)
+    noted_append life.connections (accepted_of earlier) (served_by noted noted.connections)
     (connections_of (lives_noted mode servers items number earlier))
     (life_is_noted noted life.node life.connections refl (lived.0.told (subst (λ n. length life.connections < n) is own)))
     (lives_are_noted mode servers items number most earlier lived.1 rest is)
@@ -180,10 +176,10 @@ module _ (mode : SetMode) (servers items queue : ℕ) (oldest : Bool) (lines : L
       let dialled : AreDialled (map dial_of spoken) talked =
       subst (λ (l : List Dial). AreDialled l talked) (sym (are_dials (place + 1) moments (new_client config) [] known))
       (histories.client.dialled (place + 1) (omega arith) within) in
-      let meet : AllMeet talked (fronts.connections_of lives) = (all place within).meet in
-      let long : length (fronts.connections_of lives) ≡ length spoken =
-      meeting_long talked (fronts.connections_of lives) meet ∙ dialled_long (map dial_of spoken) talked dialled ∙ spoken_long spoken in
-      are_shared spoken talked (fronts.connections_of lives) (connections_of (lives_noted mode servers items (place + 1) lives))
+      let meet : AllMeet talked (accepted_of lives) = (all place within).meet in
+      let long : length (accepted_of lives) ≡ length spoken =
+      meeting_long talked (accepted_of lives) meet ∙ dialled_long (map dial_of spoken) talked dialled ∙ spoken_long spoken in
+      are_shared spoken talked (accepted_of lives) (connections_of (lives_noted mode servers items (place + 1) lives))
       dialled meet
       (lives_are_noted mode servers items (place + 1) (2 ^ 32 - 1) lives (histories.lives place within)
       (subst (λ n. n < 2 ^ 32 - 1) (sym long) few) refl)

@@ -24,7 +24,7 @@ use Rattle.client_orders.proofs.Lists.{own_append, own_other, own_same}
 use Rattle.client_links.specs.Links.{Opened, Passing, Put, Took, begun_with, passed_in}
 use Rattle.set_meetings.proofs.Lists.{passed_append, passed_other, passed_own}
 use Rattle.client_dials.specs.Spoken.{Spoken, spoken_in, spoken_with}
-use Rattle.set_histories.specs.Lives.{Dial, dialled_by, dials_after, dials_with, new_dial, on_last}
+use Rattle.set_talks.specs.Lives.{Dial, dialled_by, dials_after, dials_with, new_dial, on_last}
 use Rattle.set_histories.proofs.Dialled.{all_long, same_servers}
 
 -- ---- what a rule says to a server

@@ -2,10 +2,9 @@
 use Rattle.std.specs.Prelude.{ℕ, List, map}
 use Rattle.ua_base.specs.declared.modes.SetMode.{SetMode}
 use Rattle.ua_channel.specs.State.{WireState}
-use Rattle.set_world.specs.Texts.{server_config}
-use Rattle.set_fronts.specs.Noting.{Accepted, NotedLife}
+use Rattle.set_histories.specs.Below.{server_config, Accepted, NotedLife}
 use Rattle.set_histories.specs.Recording.{RecordedLife}
-use Rattle.set_meetings.specs.Meetings.{Life}
+use Rattle.set_talks.specs.Meetings.{Life}
 
 abbrev pub life_noted : SetMode → ℕ → ℕ → ℕ → NotedLife RecordedLife WireState → Life
 life_noted mode servers items number life = record {

@@ -4,10 +4,10 @@ ghost use Rattle.ua_base.specs.declared.modes.SetMode.{SetMode};
 ghost use Rattle.scenario.specs.declared.line.Line.{Line};
 ghost use Rattle.client_laws.specs.Life.{acts_of};
 ghost use Rattle.client_links.specs.Links.{passed_in};
-ghost use Rattle.set_world.specs.Texts.{client_config};
+ghost use Rattle.set_histories.specs.Below.{client_config};
 ghost use Rattle.set_histories.specs.Histories.{lives_after, recorded_after};
 ghost use Rattle.client_dials.specs.Spoken.{spoken_in};
-ghost use Rattle.set_meetings.specs.Meetings.{AllShared};
+ghost use Rattle.set_talks.specs.Meetings.{AllShared};
 ghost use Rattle.set_meetings.specs.Noted.{lives_noted};
 
 /// After any lines of a scenario, the connections of the client's link to a server are, one after another, those of the

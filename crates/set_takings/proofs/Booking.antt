@@ -15,10 +15,10 @@ use Rattle.link_takings.specs.From.{IsFrom}
 use Rattle.link_following.specs.Book.{Book, BringsOf, ComeOf, InBook}
 use Rattle.client_links.specs.Awaited.{AllAwaited}
 use Rattle.client_links.specs.Links.{passed_by}
-use Rattle.set_histories.specs.Lives.{put_on}
+use Rattle.set_talks.specs.Lives.{put_on}
 use Rattle.client_dials.specs.Behind.{IsHeardBehind}
 use Rattle.client_dials.specs.Spoken.{Spoken, spoken_in}
-use Rattle.set_meetings.specs.Meetings.{AllShared, AreShared, IsShared, Life, Served, connections_of, served_by, start_of}
+use Rattle.set_talks.specs.Meetings.{AllShared, AreShared, IsShared, Life, Served, connections_of, served_by, start_of}
 use Rattle.set_askings.specs.Once.{AllKept}
 use Rattle.set_takings.specs.Booked.{IsBooked}
 use Rattle.set_takings.proofs.Places.{IsHeardAt, all_behind, all_join, heard_at, place_behind}

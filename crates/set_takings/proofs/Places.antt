@@ -20,8 +20,8 @@ use Rattle.server_answers.specs.Turns as turns
 use Rattle.link_rules.specs.Said.{Told}
 use Rattle.link_laws.specs.Lockstep.{is_publish}
 use Rattle.link_takings.specs.Exchange.{NoPublish}
-use Rattle.set_histories.specs.Heard.{AreHeardOf, IsHeardOf}
-use Rattle.set_histories.specs.Lives as lives
+use Rattle.set_talks.specs.Heard.{AreHeardOf, IsHeardOf}
+use Rattle.set_talks.specs.Lives as lives
 use Rattle.client_askings.specs.Reading.{AreReadAs, ReadsAs}
 
 -- ---- parts of lists

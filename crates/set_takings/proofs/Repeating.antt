@@ -33,10 +33,10 @@ use Rattle.link_laws.specs.Taken.{heard_reply}
 use Rattle.link_takings.specs.Exchange.{AsksAgain, Exchange, messages_of}
 use Rattle.link_takings.specs.From.{HasData}
 use Rattle.link_following.specs.Book.{Book, InBook}
-use Rattle.set_histories.specs.Heard.{AreHeardOf}
+use Rattle.set_talks.specs.Heard.{AreHeardOf}
 use Rattle.client_askings.specs.Reading.{AreReadAs, ReadsAs}
 use Rattle.client_dials.specs.Spoken.{Spoken}
-use Rattle.set_meetings.specs.Meetings.{IsShared, Life, Served, start_of}
+use Rattle.set_talks.specs.Meetings.{IsShared, Life, Served, start_of}
 use Rattle.set_takings.specs.Booked.{IsBooked}
 use Rattle.set_takings.proofs.Places.{IsHeardAt, heard_then, none_read, on_same, place_behind, read_at}
 

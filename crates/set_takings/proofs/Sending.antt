@@ -19,8 +19,8 @@ use Rattle.server_tellings.specs.Heard.{IsPutOn, WasSent}
 use Rattle.link_rules.specs.Step as alone
 use Rattle.link_takings.specs.From.{IsPublished}
 use Rattle.link_following.specs.Book.{Book, InBook}
-use Rattle.set_histories.specs.Lives.{put_on}
-use Rattle.set_meetings.specs.Meetings.{Life, start_of}
+use Rattle.set_talks.specs.Lives.{put_on}
+use Rattle.set_talks.specs.Meetings.{Life, start_of}
 use Rattle.set_takings.specs.Booked.{IsBooked}
 use Rattle.set_takings.proofs.Places.{IsHeardAt, put_at}
 

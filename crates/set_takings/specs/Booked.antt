@@ -12,7 +12,7 @@ use Rattle.server_answers.specs.Turns.{AreHeard}
 use Rattle.server_tellings.specs.Heard.{WasSent}
 use Rattle.link_takings.specs.From.{HasData}
 use Rattle.link_following.specs.Book.{Book, InBook}
-use Rattle.set_meetings.specs.Meetings.{Life, start_of}
+use Rattle.set_talks.specs.Meetings.{Life, start_of}
 
 -- a life begins with what fits the wire, all that happens to it does, and what it hears it awaits; and whatever data it sent,
 -- and kept at any time, are in the book

@@ -8,7 +8,7 @@ ghost use Rattle.client_links.specs.Awaited.{AllAwaited};
 ghost use Rattle.client_links.specs.Links.{passed_by};
 ghost use Rattle.link_following.specs.Book.{Book, ComeOf};
 ghost use Rattle.client_dials.specs.Spoken.{spoken_in};
-ghost use Rattle.set_meetings.specs.Meetings.{AllShared, Life};
+ghost use Rattle.set_talks.specs.Meetings.{AllShared, Life};
 ghost use Rattle.set_askings.specs.Once.{AllKept};
 ghost use Rattle.set_takings.specs.Booked.{IsBooked};
 

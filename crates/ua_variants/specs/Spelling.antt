@@ -10,7 +10,7 @@ use Rattle.ua_variants.specs.declared.variant.Scalar.{Scalar}
 use Rattle.ua_variants.specs.declared.variant.Scalar.TheVariants as scalar
 use Rattle.ua_variants.specs.declared.variant.Array.{Array}
 use Rattle.ua_variants.specs.declared.variant.Array.TheVariants as array
-use Rattle.ua_variants.specs.declared.variant.Variant.{Variant, fold-Variant}
+use Rattle.ua_variants.specs.declared.variant.Variant.{Variant, fold-Variant, out-Variant}
 use Rattle.ua_variants.specs.declared.variant.Variant.TheOpen.{Variant-F}
 use Rattle.ua_variants.specs.declared.variant.Stamped.{Stamped}
 use Rattle.ua_variants.specs.declared.head.Kind.{Kind}
@@ -125,10 +125,6 @@ written_shape (Some sizes) = written_array (little_bytes 4) sizes
 abbrev pub written_head : Kind → Option (List ℕ) → List ℕ
 written_head k sizes = little_bytes 1 (head_number (head.Many k (is_some sizes)))
 
--- elements that are written already
-abbrev pub joined : List (List ℕ) → List ℕ
-joined items = written_array (λ item. item) items
-
 -- ---- DataValue
 
 abbrev pub written_some : {A : Type 0} → (A → List ℕ) → Option A → List ℕ
@@ -149,20 +145,25 @@ written_stamped written d = little_bytes 1 (mask_of d) ++ written_some written d
 
 -- ---- Variant
 
--- one level, in which what it holds is written already
-abbrev pub written_layer : Variant-F (List ℕ) → List ℕ
-written_layer Variant-F.Null = little_bytes 1 0
-written_layer (Variant-F.Scalar s) = little_bytes 1 (head_number (head.One (kind.Flat (flat_of s)))) ++ written_scalar s
-written_layer (Variant-F.DataValue d) = little_bytes 1 23 ++ written_stamped (λ v. v) d
-written_layer (Variant-F.Variant v) = little_bytes 1 24 ++ v
-written_layer Variant-F.DiagnosticInfo = little_bytes 1 25 ++ little_bytes 1 0
-written_layer (Variant-F.Array items sizes) = written_head (kind.Flat (flat_of_array items)) sizes ++ written_flat_array items ++ written_shape sizes
-written_layer (Variant-F.DataValues items sizes) = written_head kind.DataValue sizes ++ written_array (written_stamped (λ v. v)) items ++ written_shape sizes
-written_layer (Variant-F.Variants items sizes) = written_head kind.Variant sizes ++ joined items ++ written_shape sizes
-written_layer (Variant-F.DiagnosticInfos n sizes) = written_head kind.DiagnosticInfo sizes ++ written_array (little_bytes 1) (replicate n 0) ++ written_shape sizes
+-- one level; `written` says how what it holds is written
+abbrev pub written_layer : {A : Type 0} → (A → List ℕ) → Variant-F A → List ℕ
+written_layer written Variant-F.Null = little_bytes 1 0
+written_layer written (Variant-F.Scalar s) = little_bytes 1 (head_number (head.One (kind.Flat (flat_of s)))) ++ written_scalar s
+written_layer written (Variant-F.DataValue d) = little_bytes 1 23 ++ written_stamped written d
+written_layer written (Variant-F.Variant v) = little_bytes 1 24 ++ written v
+written_layer written Variant-F.DiagnosticInfo = little_bytes 1 25 ++ little_bytes 1 0
+written_layer written (Variant-F.Array items sizes) = written_head (kind.Flat (flat_of_array items)) sizes ++ written_flat_array items ++ written_shape sizes
+written_layer written (Variant-F.DataValues items sizes) = written_head kind.DataValue sizes ++ written_array (written_stamped written) items ++ written_shape sizes
+written_layer written (Variant-F.Variants items sizes) = written_head kind.Variant sizes ++ written_array written items ++ written_shape sizes
+written_layer written (Variant-F.DiagnosticInfos n sizes) = written_head kind.DiagnosticInfo sizes ++ written_array (little_bytes 1) (replicate n 0) ++ written_shape sizes
 
+-- a Variant that stands inside another: level by level, from within
+unfoldable pub written_within : Variant → List ℕ
+written_within v = fold-Variant (List ℕ) (written_layer (λ bytes. bytes)) v
+
+-- the outermost level stands apart, so that a Variant that holds no others is written without a fold
 unfoldable pub written_variant : Variant → List ℕ
-written_variant v = fold-Variant (List ℕ) written_layer v
+written_variant v = written_layer written_within (out-Variant v)
 
 abbrev pub written_data_value : Stamped Variant → List ℕ
 written_data_value d = written_stamped written_variant d

@@ -16,7 +16,7 @@ use Rattle.client_rules.specs.Step.{Moment}
 use Rattle.client_laws.specs.Life.{acts_of, client_after, history_of}
 use Rattle.client_laws.specs.Choosing.{AreChoices, candidates_of, nothing_told, told_after}
 use Rattle.client_links.specs.Switching.{switch_lines, switches_of}
-use Rattle.set_histories.specs.Histories.{AreHistories}
+use Rattle.set_laws.specs.Below.{AreHistories}
 use Rattle.uaset.specs.Answer.{defined_in, defined_log, log_over_messages, size_of}
 use Rattle.uaset.specs.Client.{IsOfItsClient, config_of, moments_of}
 

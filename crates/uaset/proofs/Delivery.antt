@@ -16,9 +16,7 @@ use Rattle.scenario.proofs.ValidLemmas.{valid_lines}
 use Rattle.client_laws.specs.Life.{acts_of, client_after, history_of}
 use Rattle.client_links.specs.Links.{IsHotOrCold, told_of}
 use Rattle.set_world.specs.Texts.{client_config}
-use Rattle.set_histories.specs.Histories.{lives_after, recorded_after}
-use Rattle.set_meetings.specs.Noted.{lives_noted}
-use Rattle.set_levels.specs.Had.{HadLevel}
+use Rattle.set_laws.specs.Below.{lives_after, recorded_after, lives_noted, HadLevel}
 use Rattle.set_laws.specs.Faithful.{IsFaithful}
 use Rattle.set_laws.specs.Limits.{AreWithin}
 use Rattle.uaset.specs.Answer.{size_of}

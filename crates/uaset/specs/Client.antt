@@ -19,10 +19,7 @@ use Rattle.client_laws.specs.Choosing.{AreChoices, candidates_of, nothing_told, 
 use Rattle.client_links.specs.Links.{told_of}
 use Rattle.client_links.specs.Switching.{switch_lines, switches_of}
 use Rattle.set_world.specs.Texts.{client_config}
-use Rattle.set_histories.specs.Histories.{lives_after, recorded_after}
-use Rattle.set_meetings.specs.Meetings.{Life}
-use Rattle.set_meetings.specs.Noted.{lives_noted}
-use Rattle.set_levels.specs.Had.{HadLevel}
+use Rattle.set_laws.specs.Below.{lives_after, recorded_after, Life, lives_noted, HadLevel}
 use Rattle.uaset.specs.Answer.{defined_log, size_of}
 
 abbrev pub config_of : List Line → ClientConfig

@@ -33,14 +33,14 @@ fn replayed(alloc: Global, bytes: &[u8], pool: usize) -> Result<Vec<u8>, Refusal
     scenario::scenarios_are_read();
     set_messages::messages_show_bytes();
     // Of a redundant set it is what the client makes of all that happens to it.
-    set_histories::histories_are_of_the_set();
+    set_laws::histories_are_of_the_set();
     client_laws::gaps_have_true_causes();
     client_laws::stamps_rise();
     client_laws::switches_are_choices();
     client_laws::switches_go_to_the_best();
     client_links::switch_lines_are_switches();
     // And of a hot or a cold set it delivers the scenario's own changes.
-    set_feeds::the_source_is_the_lines_changes();
+    set_laws::the_source_is_the_lines_changes();
     set_laws::hot_and_cold_logs_are_safe();
     set_laws::levels_are_the_servers_own();
     match replay(alloc, bytes, pool) {

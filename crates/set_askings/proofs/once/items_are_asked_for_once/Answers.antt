@@ -4,7 +4,7 @@ use Rattle.link_rules.specs.State.{new_link}
 use Rattle.client_dials.specs.Spoken.{spoken_in}
 use Rattle.client_links.specs.Links.{passed_by}
 use Rattle.server_tellings.proofs.Hearing.{life_again}
-use Rattle.set_meetings.specs.Meetings.{connections_of, start_of}
+use Rattle.set_talks.specs.Meetings.{connections_of, start_of}
 use Rattle.set_askings.proofs.Living.{all_once}
 use Rattle.set_askings.proofs.Sharing.{each_spoken, good_spoken}
 use Rattle.set_askings.proofs.Speaking.{each_on}

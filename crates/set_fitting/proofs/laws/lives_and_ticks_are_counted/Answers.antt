@@ -3,9 +3,7 @@ use Rattle.set_model.specs.declared.source.Change.{Change}
 use Rattle.set_model.specs.Source.{IsSource}
 use Rattle.scenario.specs.Past.{changes_in}
 use Rattle.client_messages.specs.Messages as learning
-use Rattle.set_world.specs.Texts.{client_config}
-use Rattle.set_messages.specs.Nodes.{beginning}
-use Rattle.set_fronts.specs.Noting.{noted_client, noted_life, noting}
+use Rattle.set_histories.specs.Below.{client_config, beginning, noted_client, noted_life, noting}
 use Rattle.set_histories.specs.Recording.{recorded_client, recorded_life, recording}
 use Rattle.set_fitting.proofs.Counting.{few_lives}
 use Rattle.set_fitting.proofs.Sourcing.{sourced_is, sourced_short}

@@ -1,7 +1,6 @@
 use Rattle.std.proofs.Common.{refl}
 use Rattle.client_messages.specs.Messages as learning
-use Rattle.set_world.specs.Texts.{client_config}
-use Rattle.set_messages.specs.Nodes.{beginning}
+use Rattle.set_fronts.specs.Below.{client_config, beginning}
 use Rattle.set_fronts.proofs.Lines.{fronts}
 use Rattle.set_histories.specs.Recording.{recorded_client, recorded_life, recording}
 use Rattle.set_histories.proofs.laws.histories_meet.Goals as goal

@@ -6,7 +6,7 @@ use Rattle.client_laws.specs.Life.{client_after}
 use Rattle.set_laws.proofs.Joining.{ClientLaws, all_follow}
 use Rattle.set_laws.proofs.Meeting.{SetLaws}
 use Rattle.set_laws.proofs.Ordering.{ordered}
-use Rattle.set_world.specs.Texts.{client_config}
+use Rattle.set_histories.specs.Below.{client_config}
 use Rattle.set_histories.specs.Histories.{recorded_after}
 use Rattle.set_laws.proofs.safe.hot_and_cold_logs_are_safe.Goals as goal
 

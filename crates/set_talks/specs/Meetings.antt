@@ -6,8 +6,8 @@ use Rattle.server_rules.specs.declared.config.ServerConfig.{ServerConfig}
 use Rattle.server_rules.specs.State.{ServerState, new_server}
 use Rattle.server_rules.specs.Step as server
 use Rattle.link_rules.specs.Said.{orders_of}
-use Rattle.set_histories.specs.Heard.{AreHeardOf}
-use Rattle.set_histories.specs.Lives.{heard_on, put_on}
+use Rattle.set_talks.specs.Heard.{AreHeardOf}
+use Rattle.set_talks.specs.Lives.{heard_on, put_on}
 use Rattle.client_dials.specs.Spoken.{Spoken}
 
 -- ---- lives

@@ -1,0 +1,4 @@
+pub mod Heard
+pub mod On
+pub mod Lives
+pub mod Meetings
