@@ -1,7 +1,7 @@
-mod Finding
-mod Growing
-mod Making
-mod Keeping
-mod Linking
+pub mod Finding
+pub mod Growing
+pub mod Making
+pub mod Keeping
+pub mod Linking
 mod Telling
 mod Lasting
