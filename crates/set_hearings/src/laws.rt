@@ -9,7 +9,8 @@ ghost use Rattle.set_histories.specs.Histories.{lives_after, recorded_after};
 ghost use Rattle.set_hearings.specs.Attentive.{AllAttentive};
 
 /// After any lines of a scenario, each life of each server, those that are over too, heard each of its messages on a
-/// connection that it had accepted and that wasn't deaf then.
+/// connection that it had accepted and that wasn't deaf then; and it heard on one connection after another: once one was
+/// opened, nothing was heard on those before it.
 pub fn lives_hear_what_they_await()
     ensures { (mode : SetMode) (servers items queue : ℕ) (oldest : Bool) (lines : List Line) (place : ℕ) → place + 1 ≤ servers
         → AllAttentive mode servers items (place + 1) (lives_after mode servers items queue oldest lines place) }
