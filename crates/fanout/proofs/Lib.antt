@@ -1,0 +1,4 @@
+pub mod Ids
+pub mod Lines
+pub mod Passing
+pub mod Placing
